@@ -4,13 +4,9 @@ import collections
 import re
 import unittest
 
-from programs import HOME
+from programs import HOME  # which has the modules of tools/ found
+from contracts import FUNCTION, NAME, definitions_of, header
 
-NAME = re.compile(r"[A-Za-z_][\w']*")
-DEFINES = re.compile(
-    r"^(?:\s*(?:abbrev|unfoldable|opaque) pub|\s*pub record|\s*pub data|pub) (?!mod |use |record |data |module )(\S+)"
-)
-FUNCTION = re.compile(r"(\s*)(pub )?(?:pub\(\w+\) )?(?:const )?fn \w+")
 TYPE = re.compile(r"^pub (?:struct|enum|trait|type) (\w+)", re.M)
 BLOCK = re.compile(r"(?:pub )?(impl|trait)\b(?:<.*?>)? (\w+)")
 FOR = re.compile(r" for (\w+)")
@@ -20,22 +16,10 @@ UNNAMED = {"◌>>=◌"}
 
 def names_by_definition(text):
     """What each definition of a file of specs/ names."""
-    found, current = collections.defaultdict(set), None
-    for line in text.split("\n"):
-        defines = DEFINES.match(line)
-        current = defines.group(1) if defines else current
-        if current and not line.startswith(("use ", "--")):
-            found[current].update(NAME.findall(line))
+    found = collections.defaultdict(set)
+    for name, lines in definitions_of(text):
+        found[name].update(NAME.findall("\n".join(lines)))
     return found
-
-
-def header(lines, at, indent):
-    """The lines of a function from its first to the brace of its body, or to the end of its declaration."""
-    for end in range(at, len(lines)):
-        line = lines[end]
-        if line == indent + "{" or line.endswith(";") or (line.endswith(" {") and "ensures" not in line):
-            return lines[at : end + 1]
-    return lines[at:]
 
 
 def offered_names(text, types):

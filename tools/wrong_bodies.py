@@ -1,11 +1,15 @@
 #!/usr/bin/env python3
-"""tools/wrong_bodies.py [CRATE ..]: sees that the prover refuses the wrong bodies that the gate doesn't try, of all crates or of these.
+"""Sees that the prover refuses the wrong bodies that the gate doesn't try, and notes it.
 
 Each file crates/CRATE/must-fail-by-hand/NAME.edit turns the body of a function, as those of crates/CRATE/must-fail do. Bodies are proved apart,
 by their contracts, so many wrong ones are tried in one check, each in a function of its own: the check says of each function whether
 it is proved. All is done in copies of the repository, over what earlier checks of it have kept, as many crates side by side as there
 are cores with memory for a check. The last line is 'N passed, N failed'.
+
+Those that were refused are noted in crates/CRATE/must-fail-by-hand/TRIED, as tried.py says. A test fails if a body has no record, or if
+its contract has changed since.
 """
+import argparse
 import pathlib
 import re
 import shutil
@@ -16,10 +20,11 @@ import threading
 from concurrent.futures import ThreadPoolExecutor
 
 import building
+from contracts import FUNCTION
+from tried import Sums, note, noted, pairs_of
 
 HOME = pathlib.Path(__file__).resolve().parent.parent
 BY_HAND = "must-fail-by-hand"
-FUNCTION = re.compile(r"(?m)^(\s*)(?:pub(?:\([a-z]+\))? )?(?:const )?fn (\w+)")
 # The type that a block is of, behind `for` where there is that word.
 IMPL = re.compile(r"(?m)^impl\b(?:[^{\n]* for)?(?:<[^{\n]*?>)? (\w+)")
 # An error of a proof, with the lines that belong to it.
@@ -30,20 +35,6 @@ NO_VERDICT = re.compile(r"has no field|is not in scope|has no `|was not admitted
 NOTHING_TO_PROVE = re.compile(r"expected type `Unit \{0\}`|the two types are `Unit \{0\}` \(expected\)")
 
 
-def pairs_of(edit):
-    """What an edit turns: the file, the text that is there and the text that takes its place."""
-    file = old = None
-    for line in edit.read_text(encoding="utf-8").splitlines():
-        word, _, text = line.partition(":")
-        text = text.removeprefix(" ")
-        if word == "file":
-            file = text
-        elif word == "old":
-            old = text
-        elif word == "new":
-            yield file, old, text
-
-
 def function_at(text, place):
     """The last function that begins at or before a place: the type that it is of, if it is of one, and its name. None where
     there is no such function."""
@@ -51,14 +42,14 @@ def function_at(text, place):
     if not found:
         return None
     types = [m.group(1) for m in IMPL.finditer(text) if m.start() <= place]
-    return types[-1] if found[-1].group(1).strip("\n") and types else "", found[-1].group(2)
+    return types[-1] if found[-1][1] and types else "", found[-1][3]
 
 
-def turned(crate, edit):
+def turned(crate, edit, texts=None):
     """The functions, each by its module, its type and its name, whose bodies an edit turns. It is refused by the last of
     them: those before it prepare, as where a struct gets a field. What comes before any function, as an import, belongs
-    to none."""
-    found, texts = [], {}
+    to none. `texts` are the files that edits have turned so far, and are turned further."""
+    found, texts = [], {} if texts is None else texts
     for file, old, new in pairs_of(edit):
         text = texts.get(file) or (HOME / "crates" / crate / file).read_text(encoding="utf-8")
         if text.count(old) != 1:
@@ -72,20 +63,53 @@ def turned(crate, edit):
     return found
 
 
-def batches_of(crate):
-    """The wrong bodies of a crate, each by the function that must be refused, in lists of which none turns a function twice."""
+def sums_of(crate, renamed=()):
+    """The sum of each wrong body of a crate, by its name."""
+    sums = Sums(HOME / "crates", renamed)
+    return {edit.stem: sums.of(crate, turned(crate, edit)[-1], edit) for edit in edits_of(crate)}
+
+
+def edits_of(crate):
+    """The wrong bodies of a crate that are tried here."""
+    return sorted((HOME / "crates" / crate / BY_HAND).glob("*.edit"))
+
+
+class Batch:
+    """Wrong bodies of a crate that are tried in one check: each by the function that must be refused, the functions that they turn, and
+    the files that they turn."""
+
+    def __init__(self, crate):
+        self.crate, self.edits, self.taken, self.texts = crate, {}, set(), {}
+
+    def takes(self, edit):
+        """Takes a wrong body up. It isn't taken if it turns a function that another turns too, or if another has its text."""
+        texts = dict(self.texts)
+        try:
+            functions = turned(self.crate, edit, texts)
+        except ValueError:
+            return False
+        if not self.taken.isdisjoint(functions):
+            return False
+        self.edits[functions[-1]], self.texts = edit, texts
+        self.taken.update(functions)
+        return True
+
+
+def batches_of(crate, edits):
+    """These wrong bodies of a crate, in as few batches as take them."""
     batches = []
-    for edit in sorted((HOME / "crates" / crate / BY_HAND).glob("*.edit")):
-        functions = turned(crate, edit)
-        for batch, taken in batches:
-            if taken.isdisjoint(functions):
-                break
-        else:
-            batch, taken = {}, set()
-            batches.append((batch, taken))
-        batch[functions[-1]] = edit
-        taken.update(functions)
-    return [batch for batch, _ in batches]
+    for edit in edits:
+        if not any(batch.takes(edit) for batch in batches):
+            batches.append(batch_of(crate, edit))
+    return batches
+
+
+def batch_of(crate, edit):
+    """A batch of one wrong body."""
+    batch = Batch(crate)
+    if not batch.takes(edit):
+        turned(crate, edit)  # which tells what is wrong with it
+    return batch
 
 
 def told_of(folder, said):
@@ -123,17 +147,15 @@ def restore(copy, crate):
     return folder
 
 
-def unproved(copy, crate, edits):
-    """The functions that are not proved once these bodies are in place, and what the check said."""
-    folder = restore(copy, crate)
-    for edit in edits:
-        for file, old, new in pairs_of(edit):
-            text = (folder / file).read_text(encoding="utf-8")
-            (folder / file).write_text(text.replace(old, new), encoding="utf-8")
+def unproved(copy, batch):
+    """The functions that are not proved once the bodies of a batch are in place, and what the check said. None in place of the functions
+    where the compiler refused the bodies, so that no contract was tried."""
+    folder = restore(copy, batch.crate)
+    for file, text in batch.texts.items():
+        (folder / file).write_text(text, encoding="utf-8")
     ran = subprocess.run(["rt", "check"], cwd=folder, stdout=subprocess.PIPE, stderr=subprocess.STDOUT, text=True, errors="replace")
-    # Where the compiler refuses a body, no contract was tried.
     is_judged = re.search(r"(?m)^logic=not-proved", ran.stdout) is not None
-    return set(told_of(folder, ran.stdout)) if is_judged else set(), ran.stdout
+    return set(told_of(folder, ran.stdout)) if is_judged else None, ran.stdout
 
 
 def is_told(function, names):
@@ -142,30 +164,60 @@ def is_told(function, names):
     return (module, name) in names or (kind != "" and (kind, name) in names)
 
 
-def refused_of(copy, crate, batch):
+def refused_of(copy, batch):
     """The functions of a batch whose wrong bodies are refused. One that is not refused beside the others may only have waited for
-    the proof of a body that it calls, so it is tried once more by itself; what that check says is printed."""
-    told, _ = unproved(copy, crate, batch.values())
-    refused = {function for function in batch if is_told(function, told)}
-    for function in batch.keys() - refused:
-        told, said = unproved(copy, crate, [batch[function]])
-        if is_told(function, told):
-            refused.add(function)
-        else:
-            print(said)
+    the proof of a body that it calls, so it is tried once more by itself; what that check says is printed. Bodies that the compiler
+    refuses may only not fit together, so they are tried by halves."""
+    told, said = unproved(copy, batch)
+    refused = {function for function in batch.edits if is_told(function, told or ())}
+    rest = [edit for function, edit in batch.edits.items() if function not in refused]
+    if len(batch.edits) == 1:
+        print(said if rest else "", end="")
+        return refused
+    size = 1 if told is not None else (len(rest) + 1) // 2
+    parts = [rest[at : at + size] for at in range(0, len(rest), size)]
+    for part in (part for edits in parts for part in batches_of(batch.crate, edits)):
+        refused |= refused_of(copy, part)
     return refused
 
 
-def try_crate(copy, crate):
-    """How many wrong bodies of a crate are refused, and how many are not."""
-    passed = failed = 0
-    for batch in batches_of(crate):
-        refused = refused_of(copy, crate, batch)
-        for function, edit in batch.items():
+def try_crate(copy, crate, names):
+    """The wrong bodies of a crate with these names that are refused, and those that are not."""
+    passed, failed = set(), set()
+    for batch in batches_of(crate, [edit for edit in edits_of(crate) if edit.stem in names]):
+        refused = refused_of(copy, batch)
+        for function, edit in batch.edits.items():
             print(f"{crate}/{edit.name}: {'refused' if function in refused else 'NOT REFUSED'}", flush=True)
-        passed, failed = passed + len(refused), failed + len(batch) - len(refused)
+            (passed if function in refused else failed).add(edit.stem)
     restore(copy, crate)
     return passed, failed
+
+
+def try_and_note(copy, crate, names):
+    """Tries the wrong bodies of a crate with these names, and notes which are refused. The sums are those before the trial, so that a
+    contract that changes meanwhile has no record. How many are refused, and how many are not."""
+    folder, sums = HOME / "crates" / crate / BY_HAND, sums_of(crate)
+    passed, failed = try_crate(copy, crate, names)
+    kept = {name: sum for name, sum in noted(folder).items() if name in sums and name not in failed}
+    note(folder, {**kept, **{name: sums[name] for name in passed}})
+    return len(passed), len(failed)
+
+
+def changed(crate):
+    """The wrong bodies of a crate that have no record, or whose contract has changed since."""
+    kept = noted(HOME / "crates" / crate / BY_HAND)
+    return {name for name, sum in sums_of(crate).items() if kept.get(name) != sum}
+
+
+def rename(crate, renamed):
+    """Has the records of a crate follow new names: where a contract is the recorded one but for these names, its sum is the new one. How
+    many records did so."""
+    folder = HOME / "crates" / crate / BY_HAND
+    kept, sums, former = noted(folder), sums_of(crate), sums_of(crate, renamed)
+    followed = {name: sums[name] for name, sum in kept.items() if sum == former.get(name) != sums[name]}
+    if followed:
+        note(folder, {**kept, **followed})
+    return len(followed)
 
 
 def size_of(crate):
@@ -181,31 +233,46 @@ def copy_into(room):
     return copy
 
 
-def try_all(crates, room, lanes):
-    """How many wrong bodies of each of these crates are refused, and how many are not: as many crates side by side as there are
-    lanes, each lane in a copy of its own."""
+def try_all(names, room, lanes):
+    """How many of the named wrong bodies of each of these crates are refused, and how many are not: as many crates side by side as there
+    are lanes, each lane in a copy of its own."""
     lane = threading.local()
 
     def tried(crate):
         if not hasattr(lane, "copy"):
             lane.copy = copy_into(room)
-        return try_crate(lane.copy, crate)
+        return try_and_note(lane.copy, crate, names[crate])
 
     with ThreadPoolExecutor(lanes) as pool:
-        return list(pool.map(tried, sorted(crates, key=size_of, reverse=True)))
+        return list(pool.map(tried, sorted(names, key=size_of, reverse=True)))
 
 
-def main(named):
-    every = [folder.parent.name for folder in HOME.glob(f"crates/*/{BY_HAND}")]
-    lacking = [name for name in named if name not in every]
+def arguments(words):
+    """What the words ask for."""
+    parser = argparse.ArgumentParser(prog="tools/wrong_bodies.py", description=__doc__, formatter_class=argparse.RawDescriptionHelpFormatter)
+    parser.add_argument("crates", metavar="CRATE", nargs="*", help="tries those of these crates alone")
+    parser.add_argument("--changed", action="store_true", help="tries those alone that have no record, or whose contract has changed since")
+    new_name = "tries none; records whose contracts changed by this name alone follow it"
+    parser.add_argument("--renamed", nargs=2, metavar=("OLD", "NEW"), action="append", default=[], help=new_name)
+    return parser.parse_args(words)
+
+
+def main(words):
+    asked = arguments(words)
+    every = sorted(folder.parent.name for folder in HOME.glob(f"crates/*/{BY_HAND}"))
+    lacking = [name for name in asked.crates if name not in every]
     if lacking:
         print(f"tools/wrong_bodies.py: {lacking[0]} has no folder {BY_HAND}", file=sys.stderr)
         return 2
-    crates = named or every
-    lanes = building.lanes()
+    crates = asked.crates or every
+    if asked.renamed:
+        print(f"{sum(rename(crate, [(new, old) for old, new in asked.renamed]) for crate in crates)} records follow their names")
+        return 0
+    names = {crate: changed(crate) if asked.changed else {edit.stem for edit in edits_of(crate)} for crate in crates}
+    names = {crate: named for crate, named in names.items() if named}
     with tempfile.TemporaryDirectory(prefix="wrong-bodies-") as room:
-        counts = try_all(crates, room, min(lanes, len(crates)))
-    passed, failed = (sum(column) for column in zip(*counts))
+        counts = try_all(names, room, max(1, min(building.lanes(), len(names))))
+    passed, failed = (sum(count[at] for count in counts) for at in (0, 1))
     print(f"{passed} passed, {failed} failed")
     return 1 if failed else 0
 
