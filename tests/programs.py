@@ -29,6 +29,10 @@ SETTLE = built("hh_settle", "SETTLE_PROGRAM")
 BENCH = built("hh_bench", "BENCH_PROGRAM")
 
 
+# Whether tests that try one of many in turn try each of them: `tests/run --long`.
+IS_LONG = "LONG_TESTS" in os.environ
+
+
 def tool(name, home=HOME):
     """What a module of `tools/` defines, in this clone or in a copy in another folder."""
     return runpy.run_path(str(home / "tools" / f"{name}.py"))

@@ -1,6 +1,7 @@
 """The gate `./check`, tried in a small repository of its own with stand-ins for `rt` and for the tests."""
 import os
 import pathlib
+import runpy
 import shutil
 import subprocess
 import tempfile
@@ -16,10 +17,13 @@ chmod +x crates/hh_settle/out/hh_settle
 echo "rt $*" >>{home}/calls
 {more}
 """
-TESTS = "#!/bin/sh\necho tests >>{home}/calls\n{more}\n"
+TESTS = '#!/bin/sh\necho "tests $*" >>{home}/calls\n{more}\n'
+FIRST, LAST = "tests --without-programs", "tests --with-programs"
 
 
 class Check(unittest.TestCase):
+    needs_programs = False
+
     def setUp(self):
         room = tempfile.TemporaryDirectory()
         self.addCleanup(room.cleanup)
@@ -53,29 +57,32 @@ class Check(unittest.TestCase):
     def test_it_adds_up_what_passed(self):
         for script in ("check", ".ci/run"):
             made = self.check("echo 216 passed, 0 failed", "echo 40 passed, 0 failed", script)
-            self.assertEqual(made, (0, "256 passed, 0 failed", ["rt ci", "tests"]))
+            self.assertEqual(made, (0, "296 passed, 0 failed", [FIRST, "rt ci", LAST]))
 
     def test_it_tells_how_many_checks_may_run(self):
         """One for each core, at most."""
         called = self.check('echo "$RT_JOBS" >>calls; echo 1 passed, 0 failed', "echo 1 passed, 0 failed")[2]
-        self.assertIn(int(called[1]), range(1, os.cpu_count() + 1))
+        self.assertIn(int(called[2]), range(1, os.cpu_count() + 1))
 
     def test_a_failed_test_fails_it(self):
+        """One that needs no program fails it at once."""
         made = self.check("echo 216 passed, 0 failed", "echo 38 passed, 2 failed; exit 1")
-        self.assertEqual(made[:2], (1, "254 passed, 2 failed"))
+        self.assertEqual(made, (1, "38 passed, 2 failed", [FIRST]))
+        made = self.check("echo 216 passed, 0 failed", f'[ "$1" = {LAST.split()[1]} ] || exec echo 9 passed, 0 failed; echo 38 passed, 2 failed; exit 1')
+        self.assertEqual(made, (1, "263 passed, 2 failed", [FIRST, "rt ci", LAST]))
 
     def test_a_failed_proof_fails_it(self):
         made = self.check("echo 215 passed, 1 failed; exit 1", "echo 40 passed, 0 failed")
-        self.assertEqual(made, (1, "215 passed, 1 failed", ["rt ci"]))
+        self.assertEqual(made, (1, "255 passed, 1 failed", [FIRST, "rt ci"]))
 
     def test_a_command_that_breaks_off_fails_it(self):
-        self.assertEqual(self.check("exit 0", "echo 40 passed, 0 failed")[:2], (1, "0 passed, 1 failed"))
+        self.assertEqual(self.check("exit 0", "echo 40 passed, 0 failed")[:2], (1, "40 passed, 1 failed"))
         made = self.check("echo 216 passed, 0 failed", "echo 40 passed, 0 failed; echo broken off")
-        self.assertEqual(made[:2], (1, "216 passed, 1 failed"))
+        self.assertEqual(made, (1, "0 passed, 1 failed", [FIRST]))
 
     def test_a_status_counts_whatever_the_line_says(self):
         made = self.check("echo 216 passed, 0 failed; exit 2", "echo 40 passed, 0 failed")
-        self.assertEqual(made, (1, "216 passed, 1 failed", ["rt ci"]))
+        self.assertEqual(made, (1, "256 passed, 1 failed", [FIRST, "rt ci"]))
 
     def run_settle(self):
         """What `./settle` does without `rt`, so that it can't build."""
@@ -120,6 +127,8 @@ class Four(unittest.TestCase):
 class Run(unittest.TestCase):
     """`tests/run`, over tests of its own."""
 
+    needs_programs = False
+
     def run_tests(self, text, *words):
         with tempfile.TemporaryDirectory() as room:
             shutil.copy(HOME / "tests" / "run", room)
@@ -135,6 +144,25 @@ class Run(unittest.TestCase):
     def test_it_runs_those_that_are_named(self):
         status, lines = self.run_tests(FOUR_TESTS, "passes", "not_asked")
         self.assertEqual((status, lines[-1]), (0, "1 passed, 0 failed"))
+
+    def test_it_runs_those_that_need_no_program(self):
+        """A class tells that its tests need none."""
+        other = "class Other(unittest.TestCase):\n    needs_programs = False\n\n    def test_passes(self):\n        pass\n"
+        four = FOUR_TESTS + "\n\n" + other
+        for words, last in (["--without-programs"], "1 passed, 0 failed"), (["--with-programs"], "1 passed, 2 failed"), ([], "2 passed, 2 failed"):
+            self.assertEqual(self.run_tests(four, *words)[1][-1], last)
+
+    def test_long_tests_are_told_so(self):
+        tells = "import os, unittest\nclass One(unittest.TestCase):\n    def test_is_long(self):\n        self.assertIn('LONG_TESTS', os.environ)\n"
+        self.assertEqual(self.run_tests(tells, "--long")[1][-1], "1 passed, 0 failed")
+        self.assertEqual(self.run_tests(tells)[1][-1], "0 passed, 1 failed")
+
+    def test_classes_that_are_named_are_there(self):
+        """Those that begin first, and those that measure seconds."""
+        run = runpy.run_path(str(HOME / "tests" / "run"))
+        for name in [*run["LONGEST"], *run["ALONE"]]:
+            module, _, kind = name.partition(".")
+            self.assertIn(f"\nclass {kind}(", (HOME / "tests" / f"{module}.py").read_text(encoding="utf-8"))
 
     def test_no_test_is_a_failure(self):
         for text, words in ((FOUR_TESTS, ["nowhere"]), ("", [])):

@@ -13,7 +13,7 @@ import time
 import unittest
 
 from killing import connect, replied
-from programs import HOME, settle
+from programs import HOME, IS_LONG, settle
 from test_command_faults import EXISTS, NO_FILE, PATIENCE, STORE, Faults
 from test_commands import answer, words_of
 from test_database import TODAY, content_of, rows_of
@@ -23,6 +23,13 @@ from test_serving import reply, request
 
 NO_MEMORY = answer("refused 90 Memory")
 MOST_CALLS, MOST_ALLOCATIONS = 5000, 1_000_000
+ASKED_AGAIN_EACH = 1 if IS_LONG else 3  # of the calls at which a program is killed
+
+
+def allocations():
+    """The numbers of the allocations that are refused: the first ones, and then one of many."""
+    first, step = (300, 61) if IS_LONG else (100, 97)
+    return itertools.chain(range(1, first + 1), range(first + step, MOST_ALLOCATIONS, step))
 
 
 class Shared(Faults):
@@ -239,8 +246,8 @@ class KilledAtEachCall(Ended):
 
     def kill_each(self, name, ask, replies, contents):
         """Kills what asks an office at each call in turn. What is left is the content after all replies that came, or after one
-        more, and then everything is asked again. `ask` takes the number of a call. Each content but the first is the one after
-        a reply."""
+        more, and after each third kill everything is asked again. `ask` takes the number of a call. Each content but the first is
+        the one after a reply."""
         beginnings = [b"".join(replies[:count]) for count in range(len(contents))]
         whole = (0, beginnings[-1], b"")
         found = set()
@@ -257,13 +264,18 @@ class KilledAtEachCall(Ended):
                 left = contents.index(self.read_copy(f"{name}{number}"))
                 self.assertIn(left, (came, came + 1))
                 found.add(left)
-                self.assertEqual(self.command("report", "--key", OPERATOR, "balances")[::2], (0, b""))
-                self.is_sound()
-                self.assertIn(content_of(self.database), contents[came : came + 2])
-                self.assertEqual(ask(0), whole)
-                self.is_sound()
-                self.assertEqual(content_of(self.database), contents[-1])
+                if number % ASKED_AGAIN_EACH == 0:
+                    self.ask_again(ask, whole, contents, came)
         self.fail("it was always killed")
+
+    def ask_again(self, ask, whole, contents, came):
+        """A report leaves what is there, and everything that is asked again is answered and is there once."""
+        self.assertEqual(self.command("report", "--key", OPERATOR, "balances")[::2], (0, b""))
+        self.is_sound()
+        self.assertIn(content_of(self.database), contents[came : came + 2])
+        self.assertEqual(ask(0), whole)
+        self.is_sound()
+        self.assertEqual(content_of(self.database), contents[-1])
 
     def kill_one(self, name, ask, told):
         """Kills a command that asks for one thing, which changes the office and is told."""
@@ -329,8 +341,8 @@ class KilledAtEachCall(Ended):
 
 @unittest.skipUnless(shutil.which("cc"), "no C compiler `cc` is on the path, so memory was not refused")
 class RefusedMemory(Ended):
-    """Each allocation of a command is refused in turn, and after the first 300 every 61st. It is told by 90, with the office as
-    it was, or the command manages without that memory."""
+    """Each allocation of a command is refused in turn, and after the first 100 every 97th; by `tests/run --long` after the first 300
+    every 61st. It is told by 90, with the office as it was, or the command manages without that memory."""
 
     def setUp(self):
         super().setUp()
@@ -349,7 +361,7 @@ class RefusedMemory(Ended):
         before = content_of(self.database)
         self.assertEqual(self.command(name, *words), wanted)
         after, shown = content_of(self.database), 0
-        for number in itertools.chain(range(1, 301), range(361, MOST_ALLOCATIONS, 61)):
+        for number in allocations():
             self.fresh("memory")
             made, was_refused = self.refused(number, name, *words)
             if not was_refused:
@@ -381,7 +393,7 @@ class RefusedMemory(Ended):
     def test_a_new_office(self):
         """If it is refused, there is none."""
         shown = 0
-        for number in itertools.chain(range(1, 301), range(361, MOST_ALLOCATIONS, 61)):
+        for number in allocations():
             self.database = self.room / f"memory{number}.db"
             made, was_refused = self.refused(number, "init", "--operator-key", OPERATOR)
             if not was_refused:

@@ -29,6 +29,10 @@ CTRL_C = b"\x03"
 KEPT = "settle: interrupted; what was answered before is kept, and what wasn't may be asked again"
 ANEW = "settle: interrupted; where other commands refuse the file by 91, take it away and begin anew"
 ECHOED = "^C"
+# How many times as fast as for a user the seconds of these tests go by. A wait of 4 takes one second, and the first line is
+# shown after half a second.
+PACE = 4
+DELAYS = ("progress", "SHOWN_AFTER", 2.0), ("watching", "SHOWN_EVERY", 0.5)
 # Does what its words say, one after the other. In what is written, `|` means the end of a line.
 STAND_IN = """\
 import os, signal, sys, time
@@ -41,7 +45,7 @@ for word in sys.argv[1:]:
     elif what == "process":
         os.write(1, f"{os.getpid()}.".encode())
     elif what == "wait":
-        time.sleep(float(value))
+        time.sleep(float(value) / PACE)
     elif what == "await":
         while not os.path.exists(value):
             time.sleep(0.01)
@@ -77,13 +81,23 @@ def screen_of(shown):
 class AtATerminal(OfTheScript):
     """A test that calls the script at a terminal."""
 
+    needs_programs = True
+
     def setUp(self):
         super().setUp()
         self.out.mkdir()
         self.office = self.room / "office"
         self.stand_in = self.room / "stand-in"
-        self.stand_in.write_text(STAND_IN)
+        self.go_at(PACE)
         self.does()
+
+    def go_at(self, pace):
+        """Has the script of this repository, and the stand-in, go at this pace."""
+        for module, name, seconds in DELAYS:
+            text = (HOME / "tools" / f"{module}.py").read_text(encoding="utf-8")
+            self.assertEqual(text.count(f"{name} = {seconds} "), 1)
+            (self.home / "tools" / f"{module}.py").write_text(text.replace(f"{name} = {seconds} ", f"{name} = {seconds / pace} "))
+        self.stand_in.write_text(STAND_IN.replace("PACE", str(pace)))
 
     def does(self, *acts):
         """Makes the stand-in the program. It does what its words say, and then this."""
@@ -153,6 +167,7 @@ class Shown(AtATerminal):
     """One line of the terminal tells how far a command is while it runs, and is gone in the end."""
 
     def test_a_short_command(self):
+        self.go_at(1)
         for status in (0, 1, 2):
             self.on_office("report", "write=hello|", "tell=there|", f"end={status}")
             self.ends(status, "hello", "there")
@@ -324,6 +339,7 @@ class ShownOfAScript(AtATerminal):
 
     def test_seconds(self):
         """They count the time of the line."""
+        self.go_at(1)
         self.does("wait=5", "write=applied=2 late=0|", "wait=2")
         self.begin(*self.in_memory)
         self.ends(0, "applied=2 late=0")
@@ -332,6 +348,7 @@ class ShownOfAScript(AtATerminal):
         self.assertRegex(second[0], rb", [012] s\Z")
 
     def test_a_short_script(self):
+        self.go_at(1)
         self.does("wait=0.7", "write=applied=2 late=0|", "end=1")
         self.begin(*self.in_memory)
         self.ends(1, "applied=2 late=0")
@@ -362,7 +379,7 @@ class ShownOfAScript(AtATerminal):
             self.does("wait=4", f"write={listening}|", f"await={served}", f"write={SETTLED}|", "wait=2")
             self.begin(*self.in_memory, **streams)
             self.read_until(b"settle: line 1 of 3")
-            time.sleep(4)
+            time.sleep(4 / PACE)
             self.shown += self.terminal.read(65_536)
             self.assertEqual(screen_of(self.shown), [*([] if streams else [listening]), ""])
             served.touch()

@@ -51,6 +51,8 @@ def offered_names(text, types):
 
 
 class Definitions(unittest.TestCase):
+    needs_programs = False
+
     def test_steps_are_of_private_contracts(self):
         defined, places, todo = {}, {}, []
         for file in sorted(HOME.glob("crates/*/specs/**/*.antt")):

@@ -121,6 +121,8 @@ class Documents(unittest.TestCase):
 
 
 class Links(unittest.TestCase):
+    needs_programs = False
+
     def test_each_link_leads_somewhere(self):
         pages = [page for folder in (".", "docs", "tests", "crates", "bench", "examples") for page in (HOME / folder).glob("*.md")]
         found = [(page, *link) for page in pages for link in LINK.findall(BLOCK.sub("", page.read_text(encoding="utf-8")))]
@@ -138,6 +140,8 @@ class Links(unittest.TestCase):
 
 
 class Found(unittest.TestCase):
+    needs_programs = False
+
     def test_how_commands_are_found(self):
         text = "a\n```\nsettle period a 'b c' 1\n```\nb\n```sh\nx\ny\n```\n```\n./settle period METER\n```\n```\nrt ci\n```\n"
         self.assertEqual(list(commands_of(text)), [("period a 'b c' 1", "x\ny\n")])

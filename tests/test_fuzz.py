@@ -152,6 +152,8 @@ class Fuzz(unittest.TestCase):
 class Blame(unittest.TestCase):
     """What `tests/fuzz` tells if a promise doesn't hold."""
 
+    needs_programs = False
+
     def setUp(self):
         room = tempfile.TemporaryDirectory()
         self.addCleanup(room.cleanup)

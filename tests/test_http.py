@@ -149,6 +149,8 @@ def parts_of(answer):
 class Examples(unittest.TestCase):
     """The examples of docs/openapi.yaml, compared with its schemas and with docs/http.md. No program is run."""
 
+    needs_programs = False
+
     def setUp(self):
         self.description = Description()
 

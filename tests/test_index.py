@@ -54,6 +54,8 @@ def slug_of(heading):
 
 
 class Index(unittest.TestCase):
+    needs_programs = False
+
     def test_each_row_names_what_is_there(self):
         rows = list(rows_of(PAGE.read_text(encoding="utf-8")))
         self.assertGreater(len(rows), 30)

@@ -45,6 +45,8 @@ class Kill(unittest.TestCase):
 class Told(unittest.TestCase):
     """What `tests/kill` tells about the services of a stand-in."""
 
+    needs_programs = False
+
     def setUp(self):
         # A stand-in has no answer for a full disk, so each has room.
         changed = {"PROGRAM": [sys.executable, "-S", STAND_IN], "KILLS": 8, "FULL_ONE_OF": sys.maxsize}

@@ -125,6 +125,8 @@ def has_clause(lines, at, indent):
 
 
 class Promises(unittest.TestCase):
+    needs_programs = False
+
     def test_each_clause_is_in_a_contract(self):
         asked = 0
         for heads, cells in tables_of(PAGE.read_text(encoding="utf-8")):

@@ -17,6 +17,8 @@ def turned_by(edit):
 
 
 class Sceptics(unittest.TestCase):
+    needs_programs = False
+
     def test_each_edit_is_there(self):
         named = NAMED.findall(PAGE.read_text(encoding="utf-8"))
         self.assertEqual(len(named), 5)

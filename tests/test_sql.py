@@ -22,6 +22,8 @@ def question(heading):
 
 
 class Questions(unittest.TestCase):
+    needs_programs = False
+
     def setUp(self):
         """The tables as the program makes them."""
         made = (HOME / "crates" / "hh_sqlrows" / "src" / "make.rt").read_text(encoding="utf-8")

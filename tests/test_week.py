@@ -165,6 +165,8 @@ class Week(unittest.TestCase):
 class Files(unittest.TestCase):
     """What the folder has, and what the guide says about it."""
 
+    needs_programs = False
+
     def test_the_week(self):
         """From a Monday to a Sunday on which clocks go back. Each period has a price, and a reading of each unit."""
         self.assertEqual([datetime.date.fromisoformat(date).weekday() for date in DATES], list(range(7)))

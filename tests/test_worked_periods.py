@@ -131,6 +131,8 @@ def second_by_the_peer():
 class OnThePage(unittest.TestCase):
     """Each figure of the page."""
 
+    needs_programs = False
+
     def check_accounts(self, period, settled, credits, interconnectors=()):
         """The table of the accounts."""
         told = figures(period.accounts_table)

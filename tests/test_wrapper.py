@@ -42,6 +42,8 @@ INTERRUPTS = signal.SIGINT, signal.SIGTERM, signal.SIGHUP
 class OfTheScript(unittest.TestCase):
     """A test with a small repository, whose folder's name has a blank, and a stand-in for `rt`."""
 
+    needs_programs = False
+
     def setUp(self):
         room = tempfile.TemporaryDirectory()
         self.addCleanup(room.cleanup)

@@ -78,6 +78,8 @@ def run_by_settle():
 
 
 class WrongBodies(unittest.TestCase):
+    needs_programs = False
+
     def test_each_turns_a_function(self):
         turned = script().turned
         self.assertTrue(BY_HAND)
@@ -308,6 +310,8 @@ EDIT = "file: src/read.rt\nold: lower::read(text)\nnew: None\n"
 
 class Records(unittest.TestCase):
     """When the record of a wrong body fits, over a crate of its own."""
+
+    needs_programs = False
 
     def sum(self, code=CODE, specs=SPECS, edit=EDIT, renamed=()):
         """The sum of the wrong body over these files."""
