@@ -1,4 +1,4 @@
-"""A stand-in for `rt`: notes each call, and builds a program that prints what it was built from.
+"""A stand-in for `rt`: notes each call, and builds a program that prints what it was built from. Its version is `a stand-in`.
 
 RT_STAND_IN names a folder. Its file `calls` gets a line for each call. Other files there tell what else
 a crate's call does:
@@ -33,6 +33,9 @@ def note(words):
 
 
 def main(words):
+    if words == ["version"]:
+        print("a stand-in")
+        return 0
     crate = pathlib.Path.cwd().name
     note([crate, words[0], *words[1:2]])
     source = pathlib.Path("../hh_settle/src/main.rt")

@@ -68,7 +68,7 @@ class Check(unittest.TestCase):
         """One that needs no program fails it at once."""
         made = self.check("echo 216 passed, 0 failed", "echo 38 passed, 2 failed; exit 1")
         self.assertEqual(made, (1, "38 passed, 2 failed", [FIRST]))
-        made = self.check("echo 216 passed, 0 failed", f'[ "$1" = {LAST.split()[1]} ] || exec echo 9 passed, 0 failed; echo 38 passed, 2 failed; exit 1')
+        made = self.check("echo 216 passed, 0 failed", f'[ "$*" = "{LAST[6:]}" ] && echo 38 passed, 2 failed && exit 1; echo 9 passed, 0 failed')
         self.assertEqual(made, (1, "263 passed, 2 failed", [FIRST, "rt ci", LAST]))
 
     def test_a_failed_proof_fails_it(self):

@@ -1,6 +1,7 @@
 """The script `settle`, tried in a small repository of its own with a stand-in for `rt`."""
 import os
 import pathlib
+import pty
 import re
 import shutil
 import signal
@@ -59,6 +60,7 @@ class OfTheScript(unittest.TestCase):
 
     def write_repository(self):
         copy_settle(self.home)
+        (self.home / "tools" / "times.csv").write_text("crate,seconds\n")
         shutil.copytree(HOME / "examples", self.home / "examples")
         (self.home / "crates.txt").write_text(CRATES)
         for crate in [*PROVED, "other"]:
@@ -143,6 +145,7 @@ class FirstCall(OfTheScript):
     def test_it_shows_which_crate_it_is_at_and_how_far(self):
         told = self.call("word")[2].splitlines()
         self.assertIn("4 crates", told[0])
+        self.assertNotIn("left", " ".join(told), "nothing is known of how long these crates take")
         steps = [("proving", "proved")] * 3 + [("proving and building, which is the longest step", "built")]
         for number, (crate, (begin, end)) in enumerate(zip(PROVED, steps), 1):
             at = f"settle: [{number}/4] {crate}: "
@@ -150,6 +153,21 @@ class FirstCall(OfTheScript):
             self.assertEqual(begins, f"{at}{begin}")
             self.assertRegex(ended, rf"\A{re.escape(at)}{end}, \d+ s\Z")
         self.assertEqual(len(told), 9)
+
+    def test_how_long_it_will_take(self):
+        """By the crates' times elsewhere, and then by those of the first ones here: those that weren't proved before."""
+        (self.home / "tools" / "times.csv").write_text("crate,seconds\nlow,60\nside,30\nmiddle,90\nhh_settle,120\n")
+        told = self.call("word")[2].splitlines()
+        self.assertIn("low: proving; 5 minutes left,", told[1])
+        self.assertIn("side: proving; 4 minutes left,", told[3])
+        estimate = tool("estimates", self.home)["Estimate"](PROVED)
+        for crate, seconds, minutes in (("low", 1, 4), ("side", 60, 7), ("middle", 150, 4)):
+            estimate.hear(crate, seconds)
+            self.assertTrue(estimate.told().startswith(f"; {minutes} minutes left,"), (crate, estimate.told()))
+
+    def test_each_crates_time_is_known(self):
+        uses = tool("sources")["uses_of_crates"]()
+        self.assertEqual(list(tool("estimates")["times"]()), tool("sources")["crates_below"]("hh_settle", uses))
 
     def test_it_uses_all_cores(self):
         self.call("word")
@@ -315,6 +333,13 @@ class WhereItCannotBuild(OfTheScript):
     def test_no_rt(self):
         self.stops(self.call("word", has_rt=False), 71, "`rt`")
 
+    def test_what_still_runs_without_rt(self):
+        self.build()
+        self.source.write_text("second\n")
+        status, _, told = self.call("word", has_rt=False)
+        self.assertEqual((status, len(told.splitlines())), (71, 1))
+        self.assertTrue(told.endswith(f"still runs, as {self.out}/hh_settle\n"), told)
+
     def test_a_folder_that_cannot_be_written_to(self):
         nobody = as_nobody()
         if nobody is None:
@@ -346,6 +371,115 @@ class Help(OfTheScript):
         told = self.call("--help")[2]
         for status in ("70", "71", "72", "130"):
             self.assertIn(status, told)
+
+
+class Released(OfTheScript):
+    """A new clone with a release: the program of these sources, packed."""
+
+    def setUp(self):
+        super().setUp()
+        self.build()
+        self.assertEqual(self.release(), (0, b"", ""))
+        self.begin_anew()
+
+    def release(self):
+        """What comes of making the release."""
+        return self.call(script=self.home / "tools" / "release")
+
+    def begin_anew(self):
+        """Takes away all that was built."""
+        for folder in (self.home / "crates").glob("*/out"):
+            shutil.rmtree(folder)
+
+    def test_it_is_run_at_once(self):
+        """Neither `rt` nor a second call needs anything more."""
+        for words in ("word", "other"):
+            self.is_quiet(f"first|{words}|".encode(), words, has_rt=False)
+
+    def test_it_is_told_once_at_a_terminal(self):
+        terminal, end = pty.openpty()
+        told = []
+        for _ in range(2):
+            how = {"stdin": subprocess.DEVNULL, "stdout": subprocess.DEVNULL, "stderr": end, "timeout": PATIENCE}
+            self.assertEqual(subprocess.run([self.home / "settle", "word"], env=self.environment(False), **how).returncode, 0)
+            os.write(end, b".\n")
+            told.append(b"")
+            while not told[-1].endswith(b".\r\n"):
+                told[-1] += os.read(terminal, 4096)
+        os.close(end)
+        os.close(terminal)
+        self.assertIn(b"built by the gate from these sources; ./settle --prove proves and builds them here", told[0])
+        self.assertEqual(told[1], b".\r\n")
+
+    def test_other_sources_are_proved(self):
+        self.source.write_text("second\n")
+        self.assertEqual(self.call("word", has_rt=False)[0], 71)
+        self.assertEqual(self.call("word")[:2], (0, b"second|word|"))
+        self.assertEqual(self.calls(), PROVED)
+
+    def test_another_byte_is_not_run(self):
+        """One of the packed program, or of its sum. A line says so, and what is there is proved."""
+        packed, note = self.home / "release" / "settle.gz", self.home / "release" / "RELEASE"
+        data, text = packed.read_bytes(), note.read_text()
+        sources, program, kit = text.splitlines()
+        for place in (0, 12, len(data) // 2, len(data) - 1):
+            packed.write_bytes(data[:place] + bytes([data[place] ^ 1]) + data[place + 1 :])
+            self.is_not_run()
+        packed.unlink()
+        self.is_not_run()
+        packed.write_bytes(data)
+        note.write_text(f"{sources}\n{program[::-1]}\n{kit}\n")
+        self.is_not_run()
+        note.write_text(text)
+        self.is_quiet(b"first|word|", "word")
+
+    def is_not_run(self):
+        status, written, told = self.call("word", has_rt=False)
+        self.assertEqual((status, written), (71, b""))
+        said, stopped = told.splitlines()
+        self.assertEqual(said, f"settle: {self.home}/release/settle.gz isn't the program that {self.home}/release/RELEASE names, so it isn't run")
+        self.assertFalse(self.out.exists())
+        status, written, told = self.call("word")
+        self.assertEqual((status, written, told.splitlines()[0], self.calls()), (0, b"first|word|", said, PROVED))
+        self.begin_anew()
+
+    def test_it_is_proved_here_where_that_is_asked_for(self):
+        """Once, and nothing is run."""
+        self.is_quiet(b"first|word|", "word")
+        self.assertEqual(self.call("--prove")[:2], (0, b""))
+        self.assertEqual(self.calls(), PROVED)
+        self.is_quiet(b"", "--prove")
+        self.is_quiet(b"first|word|", "word")
+
+    def test_it_is_there_where_that_is_asked_for(self):
+        self.is_quiet(b"", "--build", has_rt=False)
+        self.is_quiet(b"first|word|", "word", has_rt=False)
+        self.source.write_text("second\n")
+        self.assertEqual(self.call("--build")[:2], (0, b""))
+        self.assertEqual(self.calls(), PROVED)
+
+    def test_it_is_made_of_what_was_proved_here(self):
+        note = (self.home / "release" / "RELEASE").read_text()
+        self.assertEqual(note.splitlines()[2], "a stand-in")
+        self.call("word")
+        status, _, told = self.release()
+        self.assertEqual((status, told.count("\n")), (1, 1))
+        self.call("--prove")
+        self.assertEqual(self.release(), (0, b"", ""))
+        self.assertEqual((self.home / "release" / "RELEASE").read_text(), note)
+
+    def test_a_folder_that_cannot_be_written_to(self):
+        nobody = as_nobody()
+        if nobody is None:
+            self.skipTest("root may write everywhere, and setpriv doesn't give up its rights here")
+        for path in (self.home, *self.home.rglob("*")):
+            path.chmod(0o755 if path.is_dir() or path.name == "settle" else 0o644)
+        (self.home / "crates" / "hh_settle").chmod(0o555)
+        how = {"cwd": "/", "env": self.environment(), "stdin": subprocess.DEVNULL, "capture_output": True}
+        made = subprocess.run([*nobody, self.home / "settle", "word"], timeout=PATIENCE, **how)
+        (self.home / "crates" / "hh_settle").chmod(0o755)
+        self.assertEqual((made.returncode, made.stdout, self.calls()), (72, b"", []))
+        self.assertIn(str(self.out), made.stderr.decode())
 
 
 class HowItIsCalled(OfTheScript):

@@ -11,7 +11,8 @@ import signal
 import subprocess
 import time
 
-from sources import CRATES, HOME, OUT, PROGRAM, crates_below, is_built, mark_built, sum_of_sources, uses_of_crates
+from estimates import Estimate
+from sources import CRATES, HOME, OUT, PROGRAM, crates_below, is_proved, mark_built, sum_of_sources, uses_of_crates
 from telling import INTERRUPTED, INTERRUPTS, NO_TOOLCHAIN, NOT_BUILT, NOT_WRITABLE, Stop, say
 
 LOG = os.path.join(OUT, "settle.log")
@@ -40,7 +41,8 @@ def lanes():
 def stop_where_it_cannot_build(crates):
     """Stops before any work where there is no `rt`, or a folder that it writes can't be written to."""
     if shutil.which("rt") is None:
-        raise Stop(NO_TOOLCHAIN, "the program has to be built first, and `rt`, the command of the Rattle toolchain, isn't on the path")
+        runs = f"; what was built before still runs, as {PROGRAM}" if os.access(PROGRAM, os.X_OK) else ""
+        raise Stop(NO_TOOLCHAIN, f"the program has to be built first, and `rt`, the command of the Rattle toolchain, isn't on the path{runs}")
     for crate in crates:
         folder = os.path.join(CRATES, crate)
         kept = os.path.join(folder, "out")
@@ -91,16 +93,18 @@ def last_lines(path):
 def prove(crates, log):
     """Proves each crate in turn. The last is the program: it is built too, and has to settle the
     example, since a status of 0 then is none that `rt` gives for a fault of its own."""
-    many = str(jobs())
+    many, estimate = str(jobs()), Estimate(crates)
     for number, crate in enumerate(crates, 1):
         at, began = f"[{number}/{len(crates)}] {crate}", time.monotonic()
         is_program = crate == "hh_settle"
-        say(f"{at}: {'proving and building, which is the longest step' if is_program else 'proving'}")
+        say(f"{at}: {'proving and building, which is the longest step' if is_program else 'proving'}{estimate.told()}")
         words = ["run", "--jobs", many, "--", *EXAMPLE] if is_program else ["lib", "--jobs", many]
         if run_rt(crate, words, log) != 0 or (is_program and not os.access(PROGRAM, os.X_OK)):
             os.write(2, last_lines(LOG).encode())
             raise Stop(NOT_BUILT, f"{at} wasn't proved and built; the whole log is {LOG}")
-        say(f"{at}: {'built' if is_program else 'proved'}, {time.monotonic() - began:.0f} s")
+        lasted = time.monotonic() - began
+        estimate.hear(crate, lasted)
+        say(f"{at}: {'built' if is_program else 'proved'}, {lasted:.0f} s")
 
 
 def build(crates):
@@ -122,13 +126,13 @@ def build(crates):
 
 
 def make():
-    """Has the program built where it isn't, by one call at a time."""
+    """Has the program proved and built here where it isn't, by one call at a time."""
     for number in (signal.SIGTERM, signal.SIGHUP):
         if signal.getsignal(number) == signal.SIG_DFL:
             signal.signal(number, signal.default_int_handler)
     crates = crates_below("hh_settle", uses_of_crates())
     stop_where_it_cannot_build(crates)
     held = hold()
-    if not is_built():
+    if not is_proved():
         build(crates)
     os.close(held)

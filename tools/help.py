@@ -21,10 +21,12 @@ report or serves clients over HTTP. docs/guide.md leads through it, docs/formats
 `settle init` makes an office in a database file, PATH, and the commands below it work on that. At a
 terminal they and `settle script` show how far they are, where they take more than two seconds.
 
-The first call, and the first after the sources have changed, proves and builds the program. That
-takes half an hour or more on four cores, and says on standard error how far it is; a call that was
+The first call takes the program of release/, where there is one, built from the sources that are
+here. Otherwise, as after each change of the sources, it proves and builds the program. That takes
+half an hour or more on four cores, and says on standard error how far it is; a call that was
 interrupted goes on where it was. It needs `rt`, the command of the Rattle toolchain. Later calls
-only run the program.
+only run the program. `settle --prove` proves and builds it here in any case, and `settle --build`
+makes sure that it is there; neither runs it.
 
 Exit status of the program: 0 done, 1 refused, 2 wrong words or help. Of this script: 70 the program
 could not be built, 71 `rt` isn't on the path, 72 the folder can't be written to, 130 interrupted.

@@ -10,8 +10,10 @@ HOME = os.path.dirname(os.path.dirname(os.path.realpath(__file__)))
 CRATES = os.path.join(HOME, "crates")
 OUT = os.path.join(CRATES, "hh_settle", "out")
 PROGRAM = os.path.join(OUT, "hh_settle")
-# The sum of the sources that the program was built from, and that of the program.
+# The sum of the sources that the program was built from, and that of the program; behind them RELEASED, where it is the
+# released one, and nothing was proved here.
 STAMP = os.path.join(OUT, "settle.built")
+RELEASED = "released"
 
 
 def uses_of_crates():
@@ -43,9 +45,13 @@ def sources_of(crate):
             yield from (os.path.join(folder, name) for name in sorted(names) if name.endswith((".rt", ".antt")))
 
 
+def sum_of(data):
+    return hashlib.sha256(data).hexdigest()
+
+
 def sum_of_file(path):
     with open(path, "rb") as file:
-        return hashlib.sha256(file.read()).hexdigest()
+        return sum_of(file.read())
 
 
 def sum_of_sources():
@@ -55,21 +61,39 @@ def sum_of_sources():
     crates = crates_below("hh_settle", uses)
     named = [(crate, uses[crate]) for crate in crates]
     summed = [(path[len(HOME) :], sum_of_file(path)) for crate in crates for path in sources_of(crate)]
-    return hashlib.sha256(repr((named, summed)).encode()).hexdigest()
+    return sum_of(repr((named, summed)).encode())
 
 
-def mark_built(sources):
+def mark_built(sources, *how):
     """Notes that the program, as it is now, was built from the sources of this sum."""
-    with open(f"{STAMP}.new", "w", encoding="utf-8") as stamp:
-        stamp.write(f"{sources}\n{sum_of_file(PROGRAM)}\n")
-    os.replace(f"{STAMP}.new", STAMP)
+    words = sources, sum_of_file(PROGRAM), *how
+    put(STAMP, "".join(f"{word}\n" for word in words).encode())
+
+
+def put(path, data, mode=0o644):
+    """Makes these bytes the file at a path, whole at any moment, though other calls do the same."""
+    made = f"{path}.{os.getpid()}"
+    with open(made, "wb") as file:
+        file.write(data)
+    os.chmod(made, mode)
+    os.replace(made, path)
+
+
+def built_as(*hows):
+    """Whether the program that is there was built from the sources that are there, in one of these ways."""
+    try:
+        with open(STAMP, encoding="utf-8") as stamp:
+            sources, program, *how = stamp.read().split()
+        return how in hows and os.access(PROGRAM, os.X_OK) and [sources, program] == [sum_of_sources(), sum_of_file(PROGRAM)]
+    except (OSError, ValueError):
+        return False
 
 
 def is_built():
-    """Whether the program that is there was built from the sources that are there."""
-    try:
-        with open(STAMP, encoding="utf-8") as stamp:
-            noted = stamp.read().split()
-        return os.access(PROGRAM, os.X_OK) and noted == [sum_of_sources(), sum_of_file(PROGRAM)]
-    except (OSError, ValueError):
-        return False
+    """Whether the program that is there was built from the sources that are there, here or as the released one."""
+    return built_as([], [RELEASED])
+
+
+def is_proved():
+    """Whether the program that is there was proved and built here, from the sources that are there."""
+    return built_as([])
