@@ -17,14 +17,13 @@ import unittest
 import test_week
 from programs import SETTLE, need, settle
 from test_commands import day_number
-from test_database import changed_by, content_of, rows_of
+from test_database import KINDS, WITHOUT_POSITIONS, changed_by, content_of, rows_of
 from test_desk import OPERATOR, text_of
 from test_serving import request
 from test_week import is_late, periods
 
 SEED = 13
 COUNT, PER_CALL = 2_000, 100
-KINDS = ("SF", "R1", "R2", "R3", "RF", "DF")
 # Among them are days on which clocks change, of 46 and 50 periods.
 DATES = ("2024-03-30", "2024-03-31", "2024-04-01", "2024-07-01", "2024-07-02", "2024-10-26", "2024-10-27", "2024-10-28")
 EVER = (0, len(DATES) - 1)
@@ -43,7 +42,6 @@ PLACES = {"meters": 1, "prices": 0, "contracts": 3, "reallocations": 2}
 TURNED = (0, 4, 6, 11)
 # How many accepted files of each kind have all their rows in time, at least.
 LEAST = {"parties": 20, "units": 20, "meters": 150, "prices": 100, "contracts": 100, "reallocations": 50}
-WITHOUT_POSITIONS = ("DELETE FROM positions", "DELETE FROM touched", "UPDATE marks SET positions = 0")
 BESIDE = ("refs", "contracts", "positions", "touched", "marks")
 BEGINS = re.compile(rb"applied=|run |refused |fault |HTTP/1\.1 |DAY REPORT |date,kind,|account,moved_pence\n")
 

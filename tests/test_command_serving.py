@@ -8,10 +8,10 @@ import unittest
 import test_serving
 from programs import SETTLE
 from test_commands import FIRST, AtAFile, date_in, midnight, results_of
-from test_database import content_of, rows_of
+from test_database import changed_by, content_of, rows_of
 from test_desk import DAY, END, MARKET, NEXT_END, OPERATOR, text_of
 from test_reports import RESULTS, report
-from test_serving import reply, request
+from test_serving import refusal, reply, request
 
 
 class Serving(AtAFile):
@@ -103,6 +103,20 @@ class Kept(Serving, test_serving.Served):
         self.assertEqual(self.rest(), RESULTS.splitlines())
         self.assertEqual(rows_of(self.database, "results"), results_of(0, FIRST, 5_000_000))
         self.assertIn(("contracts", "c2.csv", rows, 0, 1), rows_of(self.database, "files"))
+
+    def test_a_row_off_its_range(self):
+        """What needs it is answered with 91, and everything else as usual."""
+        self.init()
+        self.run_script_at("".join(f"{line}\n" for line in self.market()))
+        changed_by(self.database, "UPDATE contracts SET kwh = 10000001")
+        self.lines = ()
+        self.begin("--count=2", f"--at={NEXT_END}")
+        body = refusal(91, "Store")
+        self.assertEqual(len(body), 29)
+        self.assertEqual(self.ask(request("GET", f"/contracts/GENCO-P/{DAY}", OPERATOR)), reply(503, body))
+        moved = '{"account":"GENCO-P","moved_pence":0}'
+        self.assertEqual(self.ask(request("GET", "/balances/GENCO-P", OPERATOR)), reply(200, moved))
+        self.assertEqual(self.rest(), [])
 
     def test_balances_before_and_after_each_run(self):
         """What was posted is read once, and again after a run or a file has come."""

@@ -291,6 +291,23 @@ class WorkedFiles(AtAFile):
         self.assertEqual(kept, [(text_of("meters", []), 0, 0)])
 
 
+class Cut(AtAFile):
+    """An output takes a number of bytes of a report and then fails."""
+
+    def test_where_an_output_fails(self):
+        """These bytes are written, and the fault is told. A later report is whole, and nothing has changed."""
+        self.init_market()
+        self.answers(self.order("SF", END), test_desk.SETTLED)
+        before = content_of(self.database)
+        for line, text, counts in test_reports.CUTS:
+            for count in (*counts, len(text)):
+                with self.subTest(line, count=count):
+                    wanted = (0, text.encode(), b"") if count == len(text) else (1, text[:count].encode(), b"fault output\n")
+                    found = test_reports.written_up_to(count, self.room / "out", *words_of(line, self.database))
+                    self.assertEqual(found, wanted)
+        self.assertEqual(content_of(self.database), before)
+
+
 class ByCommands(Desk):
     """A test whose scripts are run over offices in new files: each line by a command of its own, or all by `script --db`."""
 

@@ -44,8 +44,12 @@ TABLES = {
     "touched": (2, "day period"),
     "marks": (1, "id positions"),
 }
-# 2024-07-01 is the 19,905th day after 1970-01-01, and 2024-01-01 the 19,723rd; 2099-12-31 is the 47,481st.
-TODAY, NEW_YEAR, LAST_DAY = 19_905, 19_723, 47_481
+# 2024-07-01 is the 19,905th day after 1970-01-01, and 2024-01-01 the 19,723rd; 2001-01-01 is the 11,323rd, 2024-10-27 the 20,023rd
+# and 2099-12-31 the 47,481st.
+TODAY, NEW_YEAR, FIRST_DAY, AUTUMN, LAST_DAY = 19_905, 19_723, 11_323, 20_023, 47_481
+KINDS = ("SF", "R1", "R2", "R3", "RF", "DF")
+# An office's file becomes one of the version before, in which no positions are kept.
+WITHOUT_POSITIONS = ("DELETE FROM positions", "DELETE FROM touched", "UPDATE marks SET positions = 0")
 
 
 def office(database, script, *made, **how):
@@ -192,6 +196,19 @@ class Positions(InAFile):
         """What is kept for the accounts in a Settlement Period: party, side, kWh, and whether the position is lost."""
         return [row[2:] for row in rows_of(database, "positions") if row[:2] == (TODAY, period)]
 
+    def settled_again(self, database, before, kind):
+        """The Settlement Periods that a run of a kind settles again: those in which it does not take over what the run before
+        has, in which one figure of each account and the energy of each unit are changed here."""
+        number, last = KINDS.index(kind), KINDS.index(before)
+        changed = (("results", "balancing", 6, -5), ("credits", "credited", 6, 2**63 - 1))
+        changed_by(database, *(f"UPDATE {table} SET {column} = {value} WHERE kind = {last}" for table, column, _, value in changed))
+        found = self.replies_over(database, self.order(kind))
+        self.assertRegex(found[0], rf"\Arun {DAY} {kind} periods 48 ")
+        rows = [[row for row in rows_of(database, table) if row[1] == number] for table, *_ in changed]
+        again = [{row[2] for row in made if row[place] != value} for made, (*_, place, value) in zip(rows, changed)]
+        self.assertEqual(*again)
+        return sorted(again[0])
+
     def test_what_touches_a_period(self):
         database, told = self.loaded()
         self.assertEqual((told, self.touched(database)), ([], list(range(1, 49))))
@@ -204,6 +221,26 @@ class Positions(InAFile):
         self.assertEqual(self.touched(database), [1])
         self.assertEqual(self.replies_over(database, self.order("R1")), [DEARER])
         self.assertEqual(self.touched(database), [])
+
+    def test_what_a_run_settles_again(self):
+        """The Settlement Periods of rows in time since the run before. Late rows change none. If accounts have joined, all."""
+        database, told = self.loaded(self.order("SF"))
+        late = [self.load("contracts", f"C1,GENCO-P,SUPCO-C,{DAY},1,{mwh}", f"c{mwh}.csv", DEADLINE) for mwh in (98, 97)]
+        cheaper = self.load("prices", f"{DAY},1,40.00000", "p3.csv")
+        joins = self.load("parties", "NEWCO,2024-01-01,,newco0001", "n2.csv")
+        steps = [
+            ("R1", [], []),
+            ("R2", [late[0]], []),
+            ("R3", [self.dearer()], [1]),
+            ("RF", [cheaper, late[1]], [1]),
+            ("DF", [joins], [*range(1, 49)]),
+        ]
+        before = "SF"
+        for kind, lines, wanted in steps:
+            with self.subTest(kind):
+                self.replies_over(database, *lines)
+                self.assertEqual(self.settled_again(database, before, kind), wanted)
+            before = kind
 
     def test_a_unit_that_joins_a_date(self):
         """No Settlement Period is touched, and the first lacks the reading of the unit."""
@@ -228,6 +265,13 @@ class Positions(InAFile):
         order = self.order("SF")
         database, told = self.loaded(most, order)
         self.assertEqual(self.positions(database, 2), [("GENCO", 0, 10**11, 0), ("SUPCO", 1, -(10**11), 0)])
+        self.assertEqual(self.positions(database, 3), [])
+        # Each volume replaces one of 10,000 MWh, or the one before, and the positions are less by so many kWh.
+        for number, (reference, mwh, less) in enumerate((("R7", "-10000", 2), ("R8", "0", 3), ("R7", "10000", 1), ("R8", "10000", 0))):
+            step = self.load("contracts", f"{reference},GENCO-P,SUPCO-C,{DAY},2,{mwh}", f"s{number}.csv")
+            self.assertEqual(self.replies_over(database, step), [APPLIED])
+            sold = 10**11 - less * 10**7
+            self.assertEqual(self.positions(database, 2), [("GENCO", 0, sold, 0), ("SUPCO", 1, -sold, 0)])
         told += self.replies_over(database, more, order, none)
         self.assertEqual(self.positions(database, 2), [("GENCO", 0, 0, 1), ("SUPCO", 1, 0, 1)])
         refused = "refused 55 TooLarge period 2"
@@ -237,13 +281,43 @@ class Positions(InAFile):
         self.assertEqual((status, written.decode().splitlines()[5:]), (0, told))
 
 
+    def test_a_lost_position_stays_lost(self):
+        """Also if the volume by which it was lost is replaced by 0."""
+        database, _ = self.loaded()
+        changed_by(database, "UPDATE positions SET kwh = 100000000000 - 98999 WHERE party = 'GENCO'")
+        lines = [self.load("contracts", f"C1,GENCO-P,SUPCO-C,{DAY},1,{mwh}", f"c{mwh}.csv") for mwh in ("198", "0", "99")]
+        for line in lines:
+            self.assertEqual(self.replies_over(database, line), [APPLIED])
+            self.assertEqual(self.positions(database, 1)[0], ("GENCO", 0, 0, 1))
+
+    def test_positions_that_are_kept(self):
+        """They are moved from what is kept by what the rows of a file change, and prices move none."""
+        database, _ = self.loaded()
+        changed_by(database, "UPDATE positions SET kwh = -99000 WHERE party = 'GENCO'", "UPDATE positions SET kwh = 0, lost = 1 WHERE party = 'SUPCO'")
+        contracts = [f"C1,GENCO-P,SUPCO-C,{DAY},1,{mwh}" for mwh in ("100", "99.5")]
+        for line, reply in ((self.load("contracts", contracts, "c2.csv"), "applied=2 late=0"), (self.dearer(), APPLIED)):
+            self.assertEqual(self.replies_over(database, line), [reply])
+            self.assertEqual(self.positions(database, 1), [("GENCO", 0, -98_500, 0), ("SUPCO", 1, 0, 1)])
+
+    def test_positions_of_a_long_day(self):
+        """A contract in each of its 50 Settlement Periods, of which the last is then sold back."""
+        database, _ = self.loaded()
+        rows = [f"C1,GENCO-P,SUPCO-C,2024-10-27,{period},10000" for period in range(1, 51)]
+        back = "C1,GENCO-P,SUPCO-C,2024-10-27,50,-10000"
+        for lines, last in ((rows, 10**7), (back, -(10**7))):
+            self.replies_over(database, self.load("contracts", lines, f"c{last}.csv"))
+            sold = [10**7] * 49 + [last]
+            wanted = [(AUTUMN, period, *row) for period, kwh in enumerate(sold, 1) for row in (("GENCO", 0, kwh, 0), ("SUPCO", 1, -kwh, 0))]
+            self.assertEqual([row for row in rows_of(database, "positions") if row[0] == AUTUMN], wanted)
+        self.assertEqual([row[1] for row in rows_of(database, "touched") if row[0] == AUTUMN], list(range(1, 51)))
+
+
 class Beside(InAFile):
     """Lists of requests, drawn at random: the answers over a file are those over tables in memory."""
 
     PARTIES = ("GENCO", "SUPCO", "NEWCO")
     ACCOUNTS = [f"{party}-{side}" for party in PARTIES for side in "PC"]
     UNITS = ("G1", "S1", "N1")
-    KINDS = ("SF", "R1", "R2", "R3", "RF", "DF")
 
     def row(self, draw, kind):
         """A row of a kind, good or bad."""
@@ -273,8 +347,8 @@ class Beside(InAFile):
         if what == 4:
             return draw.choice(market)
         if what <= 7:
-            return self.order(draw.choice(self.KINDS), draw.choice((END - 1, END, NEXT_END)), draw.choice((DAY, DAY, "2024-07-02")), key)
-        return draw.choice((report("day", draw.choice(self.KINDS), key), report("csv", draw.choice(self.KINDS), key), balances(key)))
+            return self.order(draw.choice(KINDS), draw.choice((END - 1, END, NEXT_END)), draw.choice((DAY, DAY, "2024-07-02")), key)
+        return draw.choice((report("day", draw.choice(KINDS), key), report("csv", draw.choice(KINDS), key), balances(key)))
 
     def script(self, seed):
         draw = random.Random(seed)
@@ -384,6 +458,54 @@ class Kept(InAFile):
         for table, rows in content.items():
             with self.subTest(table):
                 self.assertEqual(rows, wanted.get(table, []))
+
+    def test_rows_at_the_ends_of_their_ranges(self):
+        """Among them the ranges of dates, and numbers as large and as small as they may be."""
+        files = {
+            "parties": ["NEWCO,2001-01-01,,newco0001", "OLDCO,2024-01-01,2024-01-01,oldco0001", "GENCO,2001-01-01,2099-12-31,genco0002"],
+            "units": ["G_1,GENCO,C,no,2024-01-01,2024-01-01", "I1,GENCO,C,yes,2001-01-01,2099-12-31", "G1,GENCO,P,no,2023-12-31,"],
+            "meters": ["G1,2024-10-27,49,10000,0.9912345,-10000", "G1,2024-10-27,50,-10000.000,2,0.001"],
+            "prices": ["2024-10-27,50,-99999.99999", "2024-10-27,49,99999.99999"],
+            "contracts": ["c-1,GENCO-P,SUPCO-C,2024-10-27,3,-1.500", "c-1,GENCO-P,SUPCO-C,2099-12-31,1,10000"],
+            "reallocations": ["G1,SUPCO-P,2024-10-27,3,25,10000", "G1,SUPCO-P,2024-10-27,4,100,-0.001", "G1,SUPCO-P,2024-10-27,5,0.00001,0"],
+        }
+        wanted = {
+            "parties": [("GENCO", FIRST_DAY, LAST_DAY, "genco0002"), ("NEWCO", FIRST_DAY, LAST_DAY, "newco0001"), ("OLDCO", NEW_YEAR, NEW_YEAR, "oldco0001")],
+            "units": [("G1", "GENCO", 0, 0, NEW_YEAR - 1, LAST_DAY), ("G_1", "GENCO", 1, 0, NEW_YEAR, NEW_YEAR), ("I1", "GENCO", 1, 1, FIRST_DAY, LAST_DAY)],
+            "meters": [("G1", AUTUMN, 49, 10_000_000, 9_912_345, -10_000_000), ("G1", AUTUMN, 50, -10_000_000, 20_000_000, 1)],
+            "prices": [(AUTUMN, 49, 9_999_999_999), (AUTUMN, 50, -9_999_999_999)],
+            "refs": [("c-1", "GENCO", 0, "SUPCO", 1)],
+            "contracts": [("c-1", AUTUMN, 3, -1_500), ("c-1", LAST_DAY, 1, 10_000_000)],
+            "reallocations": [("G1", "SUPCO", 0, AUTUMN, period, *row) for period, row in ((3, (2_500_000, 10_000_000)), (4, (10_000_000, -1)), (5, (1, 0)))],
+        }
+        before = content_of(self.loaded()[0])
+        database, told = self.loaded(*(self.load(kind, rows, "ends.csv") for kind, rows in files.items()))
+        self.assertEqual(told, [f"applied={len(rows)} late=0" for rows in files.values()])
+        after = content_of(database)
+        for table, rows in wanted.items():
+            with self.subTest(table):
+                self.assertEqual([row for row in after[table] if row not in before[table]], rows)
+
+    def test_balances_of_any_size(self):
+        """They may be larger than a posting. What is posted to an account of no party isn't shown."""
+        database, _ = self.loaded(self.order("SF", END))
+        changed_by(
+            database,
+            f"UPDATE postings SET pence = {2**63 - 1} WHERE party = 'GENCO'",
+            f"UPDATE postings SET pence = {-(2**63)} WHERE party = 'SUPCO'",
+            f"INSERT INTO postings VALUES ({TODAY + 1}, 0, 'GENCO', 0, 1), ({TODAY + 1}, 0, 'NEWCO', 0, 7)",
+        )
+        wanted = ["account,moved_pence", f"GENCO-P,{2**63}", "GENCO-C,0", "SUPCO-P,0", f"SUPCO-C,{-(2**63)}"]
+        self.assertEqual(self.replies_over(database, balances()), wanted)
+
+    def test_figures_as_large_as_they_are_kept(self):
+        """An energy that is wider than its field of 20 is written whole."""
+        database, _ = self.loaded(self.order("SF", END))
+        changed_by(database, f"UPDATE results SET credited = {-(2**63)}, balancing = {2**63 - 1} WHERE period = 1 AND party = 'GENCO' AND side = 0")
+        energies = "-922337203.6854775808", "922337203.6854775807", "99.0000000000", "0.5000000000"
+        found = self.replies_over(database, report("day"), report("csv"))
+        self.assertEqual(found[2], f"{1:3} {'GENCO-P':12} {' '.join(f'{energy:>20}' for energy in energies)} {-2500:14} {2538:14}")
+        self.assertEqual(found[DAY_REPORT.count("\n") + 1], f"{DAY},SF,GENCO-P,1,{','.join(energies)},-2500,2538")
 
     def test_what_is_settled(self):
         """The rows of the run are those of the text that was derived by hand, and each unit's credit goes to its lead account."""
@@ -554,10 +676,12 @@ class Bad(InAFile):
         for statement in (
             "UPDATE settings SET version = 2",
             "UPDATE settings SET version = 0",
+            "UPDATE settings SET id = 2",
             "UPDATE settings SET lead_minutes = 1441",
             "UPDATE settings SET lead_minutes = -1",
             "UPDATE settings SET operator_key = 'op-short1'",
             "UPDATE settings SET operator_key = 'genco0001000'",
+            "UPDATE settings SET operator_key = 'settle001'",
             "UPDATE settings SET operator_key = 'op-settle_001'",
             "DELETE FROM settings",
             "DELETE FROM marks",
@@ -571,7 +695,35 @@ class Bad(InAFile):
                 self.refused(database)
                 self.assertEqual(content_of(database), before)
         database.write_bytes(data)
+        changed_by(database, "UPDATE settings SET lead_minutes = 1440")
         self.assertEqual(self.replies_over(database, self.load(*MARKET[0], name="f1.csv")), LOADED[:1])
+
+    def test_contracts_off_their_range(self):
+        """If no positions are kept, they are made from all contracts. So no office is taken over that has such a contract."""
+        whole, _ = self.loaded()
+        data = whole.read_bytes()
+        for change in (
+            "reference = 'c 1'",
+            "reference = ''",
+            "day = 11322",
+            "day = 47482",
+            "day = -1",
+            "period = 0",
+            "period = 51",
+            "period = 65537",
+            "kwh = 10000001",
+            "kwh = -10000001",
+        ):
+            with self.subTest(change):
+                database = self.database()
+                database.write_bytes(data)
+                changed_by(database, *WITHOUT_POSITIONS, f"UPDATE contracts SET {change}")
+                before = content_of(database)
+                self.refused(database)
+                self.assertEqual(content_of(database), before)
+        database.write_bytes(data)
+        changed_by(database, *WITHOUT_POSITIONS)
+        self.assertEqual(len(self.replies_over(database, balances())), 5)
 
     def test_rows_off_their_range(self):
         """What needs such a row is answered with 91, and everything else as usual. No row changes."""
@@ -582,6 +734,18 @@ class Bad(InAFile):
             ("UPDATE meters SET tlm = -1 WHERE unit = 'G1' AND period = 1", self.order("R1")),
             ("UPDATE prices SET price = 10000000000 WHERE period = 1", self.order("R1")),
             ("UPDATE units SET interconnector = 2 WHERE unit = 'G1'", self.order("R1")),
+            ("UPDATE units SET side = 2 WHERE unit = 'G1'", self.order("R1")),
+            ("UPDATE units SET day_to = day_from - 1 WHERE unit = 'G1'", self.order("R1")),
+            ("UPDATE runs SET kind = 6", self.order("R1")),
+            ("UPDATE positions SET kwh = 1, lost = 1 WHERE party = 'GENCO'", self.order("R1")),
+            ("UPDATE positions SET kwh = -1, lost = 1 WHERE party = 'GENCO'", self.order("R1")),
+            ("UPDATE positions SET lost = 2 WHERE party = 'GENCO'", self.order("R1")),
+            ("UPDATE positions SET kwh = 100000000001 WHERE party = 'GENCO'", self.order("R1")),
+            ("UPDATE positions SET kwh = -100000000001 WHERE party = 'SUPCO'", self.order("R1")),
+            ("UPDATE positions SET period = 51 WHERE party = 'GENCO'", self.order("R1")),
+            ("INSERT INTO touched VALUES (19905, 0)", self.order("R1")),
+            ("INSERT INTO touched VALUES (19905, 51)", self.order("R1")),
+            ("UPDATE files SET applied = 4294967296 WHERE name = 'f4.csv'", self.load(*MARKET[3], name="f4.csv")),
             ("UPDATE parties SET day_to = day_from - 1", balances()),
             ("UPDATE parties SET access_key = 'short' WHERE party = 'GENCO'", balances()),
             ("UPDATE postings SET side = 2 WHERE party = 'GENCO'", balances()),

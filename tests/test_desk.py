@@ -289,9 +289,34 @@ class Runs(Desk):
     def test_the_order_of_the_kinds(self):
         """The first is SF, later kinds may be left out, and none may come before an earlier one."""
         final = f"run {DAY} RF periods 48 accounts 4 residual 5050 postings 0"
-        lines = [self.order(kind) for kind in ("R1", "SF", "RF", "R2", "R1")]
+        lines = [self.order(kind) for kind in ("R1", "SF", "RF", "R2", "R1", "RF")]
         none, back = "refused 51 NoInitialRun", "refused 50 RunOrder"
-        self.assertEqual(self.after_market(*lines), [none, SETTLED, final, back, back])
+        self.assertEqual(self.after_market(*lines), [none, SETTLED, final, back, back, final])
+
+    def test_each_kind(self):
+        """The six kinds follow each other, and are told again. DF may come immediately after SF."""
+        kinds = "SF", "R1", "R2", "R3", "RF", "DF"
+        told = [SETTLED] + [f"run {DAY} {kind} periods 48 accounts 4 residual 5050 postings 0" for kind in kinds[1:]]
+        lines = [self.order(kind) for kind in kinds]
+        self.assertEqual(self.after_market(*lines, lines[3], lines[-1]), [*told, told[3], told[-1]])
+        self.assertEqual(self.after_market(lines[0], lines[-1], lines[-2]), [told[0], told[-1], "refused 50 RunOrder"])
+
+    def test_nobody_is_registered(self):
+        """Nothing is shared among no accounts."""
+        lines = [self.load("prices", [f"{DAY},{period},50" for period in range(1, 49)]), self.order("SF")]
+        wanted = ["applied=48 late=0", f"run {DAY} SF periods 48 accounts 0 residual 0 postings 0"]
+        self.assertEqual(self.replies(*lines), wanted)
+
+    def test_the_most_contracts(self):
+        """A thousand contracts of 10,000 MWh are the most energy that an account may have sold in a period."""
+        rows = [f"L{number},GENCO-P,SUPCO-C,{DAY},2,10000.000" for number in range(1_001)]
+        lines = [
+            self.load("contracts", rows, "large.csv"),
+            self.order("SF"),
+            self.load("contracts", f"L1000,GENCO-P,SUPCO-C,{DAY},2,0", "less.csv"),
+            self.order("SF"),
+        ]
+        self.assertEqual(self.after_market(*lines), ["applied=1001 late=0", "refused 55 TooLarge period 2", APPLIED, SETTLED])
 
     def test_kinds_that_are_left_out(self):
         """RF posts what has changed since SF, which is the latest run before it, and DF what has changed since RF."""
@@ -945,6 +970,8 @@ class OffTheirForm(Desk):
             f"run {END} {OPERATOR} {DAY} SF ",
             f"run {END} {OPERATOR} {DAY}  SF",
             f"run {END} {OPERATOR} {DAY} SF\r",
+            f"run {END} {OPERATOR} {DAY} ",
+            f"run {END} {OPERATOR} {DAY} S",
             f"run {END} {OPERATOR} {DAY} XX",
             f"run {END} {OPERATOR} {DAY} sf",
             f"run {END} {OPERATOR} {DAY} RA",

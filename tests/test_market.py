@@ -1,6 +1,6 @@
 """Files of the example market through `hh_bench load`: from text to what becomes of each row. All rows come at
-2024-06-01T00:00:00Z, before the market's deadlines. Late rows are mainly tested in test_desk.py. Also what `hh_bench read` and
-`hh_bench settle` print."""
+2024-06-01T00:00:00Z, before the market's deadlines. Late rows are mainly tested in test_desk.py. Each date that there is: its
+periods, and when it ends. Also what `hh_bench read` and `hh_bench settle` print."""
 import datetime
 import pathlib
 import subprocess
@@ -8,7 +8,8 @@ import tempfile
 import unittest
 
 from programs import BENCH, need
-from test_desk import HEADERS
+from test_commands import midnight
+from test_desk import HEADERS, Desk, text_of
 
 METERS = "unit,date,period,metered_mwh,tlm,balancing_mwh\n"
 CONTRACTS = "reference,seller,buyer,date,period,mwh\n"
@@ -172,6 +173,50 @@ class Market(OfTheBench):
         self.assertEqual(self.load(("contracts", CONTRACTS + most)), (["contracts applied 1 late 0 refused 0"], []))
         above = "C6,GENCO-P,SUPCO-C,2024-07-01,1,10000.001\n"
         self.assertEqual(self.load(("contracts", CONTRACTS + above)), ([], ["refused 14 BadField"]))
+
+
+class Dates(Desk):
+    """Each date from 2001-01-01 to 2099-12-31, by the rule of the market's clocks that `midnight` has: they go forward on the
+    last Sunday of March, and back on that of October."""
+
+    MOST_ROWS = 20_000
+
+    @classmethod
+    def setUpClass(cls):
+        first, last = datetime.date(2001, 1, 1).toordinal(), datetime.date(2099, 12, 31).toordinal()
+        days = [datetime.date.fromordinal(day).isoformat() for day in range(first, last + 2)]
+        starts = [midnight(day) for day in days]
+        cls.dates, cls.ends = days[:-1], starts[1:]
+        cls.counts = [(end - start) // 1800 for start, end in zip(starts, cls.ends)]
+
+    def applied(self, periods):
+        """How many prices are applied, late and refused, if each of these dates has one for this period."""
+        rows = [f"{date},{period},0" for date, period in periods]
+        pieces = [rows[at : at + self.MOST_ROWS] for at in range(0, len(rows), self.MOST_ROWS)]
+        paths = [self.path(f"{number}.csv", text_of("prices", piece)) for number, piece in enumerate(pieces)]
+        status, written, _ = bench("load", *(word for path in paths for word in ("prices", path)))
+        self.assertEqual((status, len(written)), (0, len(pieces)))
+        found = [[int(word) for word in line.split()[2::2]] for line in written]
+        return [sum(counts) for counts in zip(*found)]
+
+    def test_the_dates_by_the_rule(self):
+        self.assertEqual(len(self.dates), 36_159)
+        self.assertEqual([self.counts.count(count) for count in (46, 50, 48)], [99, 99, 35_961])
+        self.assertEqual(self.ends[0] - self.counts[0] * 1800, 978_307_200)
+
+    def test_the_last_period_of_each_date(self):
+        """It has a price, and no period behind it has one. Period 51 is no period of any date."""
+        need(BENCH)
+        self.assertEqual(self.applied(zip(self.dates, self.counts)), [36_159, 0, 0])
+        behind = [(date, count + 1) for date, count in zip(self.dates, self.counts) if count < 50]
+        self.assertEqual(self.applied(behind), [0, 0, 36_060])
+
+    def test_the_end_of_each_date(self):
+        """A run a second before the next date begins is too early. At that second it lacks a price."""
+        lines = [self.order("SF", moment, date) for date, end in zip(self.dates, self.ends) for moment in (end - 1, end)]
+        found = self.replies(*lines)
+        wanted = ["refused 52 DayNotOver", "refused 53 MissingPrice period 1"] * len(self.dates)
+        self.assertEqual([pair for pair in zip(lines, found, wanted, strict=True) if pair[1] != pair[2]][:5], [])
 
 
 class Measured(OfTheBench):

@@ -85,6 +85,15 @@ class Settled(OfTheProgram):
         )
         self.assertEqual(self.period(meter, contracts, "10"), (0, text, b""))
 
+    def test_the_order_of_accounts(self):
+        """By the bytes of the party, a shorter one first, and then P before C."""
+        accounts = ["0-C", "A-P", "A-C", "A0-P", "AA-C", "B-P"]
+        pairs = ("B-P", "0-C"), ("A-C", "AA-C"), ("A0-P", "A-P")
+        rows = "".join(f"R{seller}{buyer},{seller},{buyer},0\n" for seller, buyer in pairs)
+        none = "credited 0.0000000000 imbalance 0.0000000000 charge 0\n"
+        text = "".join(f"account {account} {none}" for account in accounts) + "residual 0\n"
+        self.assertEqual(self.period("", rows, "1"), (0, text.encode(), b""))
+
     def test_a_write_of_more_than_4096_bytes(self):
         rows, text = period_of(100)
         self.assertGreaterEqual(len(text), 5000)
@@ -175,6 +184,7 @@ class Unreadable(OfTheProgram):
 
     def test_no_file(self):
         self.unreadable(str(self.room / "missing.csv"))
+        self.unreadable("")
 
     def test_a_folder(self):
         self.unreadable(str(self.room))

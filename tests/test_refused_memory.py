@@ -26,6 +26,11 @@ NO_MEMORY = reply(503, refusal(90, "Memory"))
 FORBIDDEN = reply(403, refusal(60, "Forbidden"))
 
 
+def head_of(answer):
+    """A reply without its body, as HEAD gets it."""
+    return answer.partition(b"\r\n\r\n")[0] + b"\r\n\r\n"
+
+
 def loaded(kind, name, rows, moment=EARLY, key=OPERATOR):
     """A file that is sent: its moment and the request."""
     return moment, request("POST", f"/files/{kind}/{name}", key, text_of(kind, rows))
@@ -89,7 +94,7 @@ REPORTS = [
     ((0, f"report {OPERATOR} day {DAY} SF\n".encode()), DAY_REPORT.encode()),
     ((0, f"report {OPERATOR} csv {DAY} SF\n".encode()), RESULTS.encode()),
     ((0, f"report {OPERATOR} balances\n".encode()), BALANCES.replace("38", "45").encode()),
-    ((0, f"report {OPERATOR} day {DAY} R3\n".encode()), reply(404, refusal(63, "NoRun"))),
+    *(((0, f"report {OPERATOR} {form} {DAY} R3\n".encode()), reply(404, refusal(63, "NoRun"))) for form in ("day", "csv")),
 ]
 # Bytes that are no request, or a request that no office has.
 REFUSED = [
@@ -279,8 +284,9 @@ class FromOutside(WithRefusals):
 
     def sweep(self, store, how, sent, wanted):
         """Each reply is the right one; or it tells that memory was refused, if it was; or there is none, because memory for it
-        was refused."""
+        was refused. HEAD gets the head alone of either."""
         program, shown = self.start(store, how), 0
+        no_memory = head_of(NO_MEMORY) if sent.startswith(b"HEAD ") else NO_MEMORY
         for place, number in enumerate(self.MOST):
             got, refusals = self.served(program, place, sent)
             if refusals == 0:
@@ -288,8 +294,8 @@ class FromOutside(WithRefusals):
                 self.assertGreater(shown, 0)
                 program.kill()
                 return
-            self.assertIn(got, (wanted, NO_MEMORY, b""), number)
-            shown += got == NO_MEMORY
+            self.assertIn(got, (wanted, no_memory, b""), number)
+            shown += got == no_memory
         self.fail("memory was always refused")
 
     def test_clients(self):
@@ -298,6 +304,7 @@ class FromOutside(WithRefusals):
             (request("GET", "/balances/SUPCO-C", SUPCO), reply(200, MOVED.replace("45", "38"))),
             (price, applied(1)),
             (request("POST", f"/runs/{DAY}/R1", OPERATOR), reply(409, refusal(52, "DayNotOver"))),
+            (request("HEAD", f"/runs/{DAY}", SUPCO), head_of(reply(405, refusal(62, "BadMethod"), "Allow: GET\r\n"))),
         ]
         for place, (sent, wanted) in enumerate(cases):
             for how in ("once", "on"):

@@ -3,11 +3,13 @@ script`. The texts in `tests/reports` were not made by the program. They were ma
 for the only period in which anything happens."""
 import csv
 import io
+import resource
+import signal
 import subprocess
 import unittest
 
 from programs import HOME, SETTLE
-from test_desk import APPLIED, DAY, DEARER, END, IDLE, LOADED, OPERATOR, SETTLED, Desk
+from test_desk import APPLIED, DAY, DEARER, END, IDLE, LOADED, MARKET, OPERATOR, SETTLED, Desk
 
 TEXTS = HOME / "tests" / "reports"
 DAY_REPORT = (TEXTS / "day.txt").read_text()
@@ -93,6 +95,22 @@ class Reports(Desk):
         self.assertEqual(lines[-8:], ["END", "account,moved_pence", "GENCO-P,23835", "GENCO-C,0", "NEWCO-P,-47353", "NEWCO-C,0", "SUPCO-P,0", "SUPCO-C,23518"])
         self.assertEqual(self.written(*self.joined(), report("day")).split("\n", 4)[4], DAY_REPORT)
 
+    def test_contracts_that_net_to_the_same(self):
+        """However the parties come to sell 99 MWh, by other volumes, by a negative one or through another account, they have
+        the market's results."""
+        cases = [
+            ["C1,GENCO-P,SUPCO-C,{},1,100", "C2,SUPCO-C,GENCO-P,{},1,1"],
+            ["C2,SUPCO-C,GENCO-P,{},1,-99"],
+            ["C1,GENCO-P,SUPCO-C,{},1,49", "C2,GENCO-P,SUPCO-P,{},1,50", "C3,SUPCO-P,SUPCO-C,{},1,50"],
+        ]
+        for rows in cases:
+            files = [*MARKET[:2], ("contracts", [row.format(DAY) for row in rows]), *MARKET[3:]]
+            loads = [self.load(kind, rows, f"f{number}.csv") for number, (kind, rows) in enumerate(files, 1)]
+            with self.subTest(rows):
+                found = self.replies(*loads, self.order("SF", END), report("csv"))
+                self.assertEqual(found[2:6], [f"applied={len(rows)} late=0", *LOADED[3:], SETTLED])
+                self.assertEqual("".join(f"{line}\n" for line in found[6:]), RESULTS)
+
     def test_charges_with_shares_sum_to_zero(self):
         """As the results are read by a reader of CSV, in each period and in all."""
         sums = {}
@@ -153,6 +171,45 @@ class Reports(Desk):
                 made = subprocess.run(["sh", "-c", f"trap '' XFSZ; {limited}", "sh", *words], capture_output=True)
                 self.assertEqual((made.returncode, made.stderr), (1, b"fault output\n"))
                 self.assertEqual(written.read_bytes(), whole[:size])
+
+
+# Each report with its text, and after how many bytes an output fails in the midst of it.
+CUTS = [
+    (report("day"), DAY_REPORT, (0, 1, 25, 156, 26_983)),
+    (report("csv"), RESULTS, (0, 76, 77, 78, 15_612)),
+    (balances(), BALANCES, (62,)),
+]
+
+
+def written_up_to(size, path, *words):
+    """How a call of `settle` ends whose output can't take more than this many bytes. The output is behind a megabyte of a file
+    that can't grow further, so that a database has room in its files."""
+    room = 2**20
+    path.write_bytes(bytes(room))
+
+    def limit():
+        signal.signal(signal.SIGXFSZ, signal.SIG_IGN)
+        resource.setrlimit(resource.RLIMIT_FSIZE, (room + size, room + size))
+
+    with open(path, "ab") as out:
+        made = subprocess.run([SETTLE, *words], stdin=subprocess.DEVNULL, stdout=out, stderr=subprocess.PIPE, preexec_fn=limit)
+    return made.returncode, path.read_bytes()[room:], made.stderr
+
+
+class Cut(Desk):
+    """An output takes a number of bytes of a report and then fails."""
+
+    def test_where_an_output_fails(self):
+        """These bytes are written, and the fault is told. If it has exactly the room, the report is whole."""
+        front = "".join(f"{line}\n" for line in [*LOADED, SETTLED])
+        for line, text, counts in CUTS:
+            script = self.file("script", "".join(f"{asked}\n" for asked in [*self.market(), self.order("SF", END), line]))
+            whole = (front + text).encode()
+            for count in (*counts, len(text)):
+                with self.subTest(line, count=count):
+                    wanted = (0, whole, b"") if count == len(text) else (1, whole[: len(front) + count], b"fault output\n")
+                    made = written_up_to(len(front) + count, self.room / "out", "script", "--operator-key", OPERATOR, script)
+                    self.assertEqual(made, wanted)
 
 
 if __name__ == "__main__":

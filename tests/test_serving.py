@@ -148,6 +148,9 @@ class Replies(Served):
         rows = [
             f"c1,GENCO-P,SUPCO-C,{DAY},1,1",
             f"C2,SUPCO-P,GENCO-P,{DAY},48,-2",
+            f"C4,SUPCO-P,GENCO-P,{DAY},48,-0.001",
+            f"C5,SUPCO-P,GENCO-P,{DAY},48,12.5",
+            f"C6,SUPCO-P,GENCO-P,{DAY},48,0",
             f"C2,SUPCO-P,GENCO-P,{DAY},2,3",
             f"C10,GENCO-P,GENCO-C,{DAY},2,4",
             f"C3,SUPCO-P,SUPCO-C,{DAY},2,5",
@@ -160,6 +163,9 @@ class Replies(Served):
                 ("GENCO-C", "4.000", 2, "C10", "seller"),
                 ("SUPCO-P", "3.000", 2, "C2", "buyer"),
                 ("SUPCO-P", "-2.000", 48, "C2", "buyer"),
+                ("SUPCO-P", "-0.001", 48, "C4", "buyer"),
+                ("SUPCO-P", "12.500", 48, "C5", "buyer"),
+                ("SUPCO-P", "0.000", 48, "C6", "buyer"),
             ],
             "GENCO-C": [("GENCO-P", "4.000", 2, "C10", "buyer")],
             "NOONE-C": [],
@@ -510,11 +516,35 @@ class Bytes(Served):
             (b"POST /files/meters/a.csv HTTP/1.0\r\n\r\n", reply(411, refusal(64, "LengthRequired"))),
             (b"GET /nowhere HTTP/1.0\r\nTransfer-Encoding: chunked\r\n\r\n", BAD),
             (b"GET /nowhere HTTP/1.0\r\nContent-Length: 1048577\r\n\r\n", TOO_LARGE),
+            # A header without a name, up to the byte that shows this.
+            (b"GET / HTTP/1.1\n:", BAD),
         )
-        self.serve(2 * len(cases))
+        self.serve(3 * len(cases))
         for asked, wanted in cases:
-            for size in (1, 7):
+            for size in (1, 7, len(asked)):
                 self.assertEqual(self.ask_in(size, asked), wanted, (asked, size))
+        self.assertEqual(self.rest(), [])
+
+    def test_files_that_are_cut_after_each_byte(self):
+        """They are bad, and nothing is loaded of them. When the whole file has come in pieces, it is answered."""
+        parties, contract = text_of(*MARKET[0]), text_of("contracts", [f"C1,GENCO-P,SUPCO-C,{DAY},1,98.000"])
+        row = '{"counterparty":"SUPCO-C","mwh":"98.000","period":1,"reference":"C1","role":"seller"}'
+        held = '{{"account":"GENCO-P","contracts":[{}],"date":"%s"}}' % DAY
+        balance, contracts = request("GET", "/balances/SUPCO-C", SUPCO), request("GET", f"/contracts/GENCO-P/{DAY}", GENCO)
+        unknown, moved = reply(403, refusal(60, "Forbidden")), reply(200, '{"account":"SUPCO-C","moved_pence":0}')
+        scenes = [
+            ("parties", parties, 2, balance, unknown, moved),
+            ("contracts", contract, 1, contracts, reply(200, held.format("")), reply(200, held.format(row))),
+        ]
+        files = [request("POST", f"/files/{kind}/cut.csv", OPERATOR, rows) for kind, rows, *_ in scenes]
+        self.serve(sum(map(len, files)) + 4 * len(files), moment=EARLY, before=[])
+        for (kind, _, count, enquiry, left, done), asked in zip(scenes, files):
+            for size in range(len(asked)):
+                self.assertEqual(self.ask(asked[:size], end=True), BAD if size else b"", (kind, size))
+            self.assertEqual(self.ask(enquiry), left, kind)
+            for size in (1, 7):
+                self.assertEqual(self.ask_in(size, asked), reply(200, f'{{"applied":{count},"late":0}}'), kind)
+            self.assertEqual(self.ask(enquiry), done, kind)
         self.assertEqual(self.rest(), [])
 
     def test_a_body_that_is_cut(self):
