@@ -1,25 +1,17 @@
-//! Tests from outside of devices, files, ports, tables, dates, names, rows and the rule of rows, and of
-//! numbers, shares, settled periods, runs and reports, for what no clause of their crates says. Lines of
-//! scripts and the rows of a settled period are tested through `settle`.
+//! Tests from outside of devices, inputs, ports, tables, dates, numbers, rows, the rule of rows, shares,
+//! settled periods and runs, for what no clause of their crates says and no program shows. What a program
+//! shows is in `tests/`.
 //!
 //! They are in one program, because a program of tests takes a minute before its first test is proved, and
 //! its compiler takes long. A crate of code has no tests, because a crate with tests is proved twice.
 #![tactic(auto)]
 
 #[cfg(test)]
-mod counted;
-#[cfg(test)]
 mod devices_tests;
 #[cfg(test)]
 mod inputs_tests;
 #[cfg(test)]
-mod names_tests;
-#[cfg(test)]
 mod num_tests;
-#[cfg(test)]
-mod positions_tests;
-#[cfg(test)]
-mod reports_tests;
 #[cfg(test)]
 mod rows_tests;
 #[cfg(test)]

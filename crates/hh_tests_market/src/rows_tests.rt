@@ -1,26 +1,9 @@
-//! What no clause says: that the definitions in the clauses give the market's texts and numbers.
+//! What no clause says and no program shows: the order of keys, and the refusal that no rule gives.
 
-use hh_names::{PeriodNumber, UnitId};
+use hh_names::{PeriodNumber, Refusal, UnitId};
 use hh_rows::*;
 use hh_time::SettlementDate;
 use std::test::Fail;
-
-/// The range that two texts name, as day numbers.
-fn range(from: &[u8], to: &[u8]) -> Option<(u16, u16)> {
-    let range = DateRange::read_to(SettlementDate::read(from)?, to)?;
-    Some((range.from().number(), range.to().number()))
-}
-
-#[test]
-fn reads_ranges(rt: HostRuntime) -> Result<(), Fail> {
-    assert_eq!(rt; range(b"2024-01-01", b""), Some((19_723, 47_481)));
-    assert_eq!(rt; range(b"2024-01-01", b"2024-01-01"), Some((19_723, 19_723)));
-    assert_eq!(rt; range(b"2001-01-01", b"2099-12-31"), Some((11_323, 47_481)));
-    for to in ["2023-12-31", "2023-02-29", "2100-01-01", " ", "2024-1-2"] {
-        assert_eq!(rt; range(b"2024-01-01", to.as_bytes()), None, "{to}");
-    }
-    Ok(())
-}
 
 /// A Settlement Period, from its day number and its number.
 fn period(day: u16, number: u8) -> Option<SettlementPeriod> {
@@ -61,5 +44,12 @@ fn keys_have_an_order(rt: HostRuntime) -> Result<(), Fail> {
             assert_eq!(rt; order, at.cmp(&beside), "{at} and {beside}");
         }
     }
+    Ok(())
+}
+
+#[test]
+fn a_refusal_that_no_rule_gives(rt: HostRuntime) -> Result<(), Fail> {
+    assert_eq!(rt; Refusal::LeadIsSubsidiary.number(), 41);
+    assert_eq!(rt; Refusal::LeadIsSubsidiary.name(), "LeadIsSubsidiary");
     Ok(())
 }

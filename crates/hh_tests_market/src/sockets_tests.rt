@@ -1,12 +1,10 @@
-//! What no clause says: that a connection of the loopback is made, and what goes over it; that what went
-//! out over a connection in memory is kept; and that a reader is read as often as allowed.
+//! What no clause says and no program shows: that what went out over a connection in memory is kept, and
+//! that a reader is read as often as allowed.
 
 use hh_devices::{DeviceFailed, Sink, Source, StreamSource};
 use hh_sockets::*;
 use std::cell::RefCell;
-use std::io;
-use std::io::{Cursor, Write};
-use std::net::{Ipv4Addr, TcpStream};
+use std::io::Cursor;
 use std::test::Fail;
 
 /// Answers one connection with its first bytes, and finishes it, saying how much of it was read.
@@ -17,27 +15,6 @@ fn answer_one<L: Listener>(listener: &mut L, received: Received) -> Result<usize
     let written = connection.sink.write(&piece[..read]).unwrap_or(0);
     listener.close(connection, received);
     Ok(written)
-}
-
-#[test]
-fn a_client_of_the_loopback_is_answered(rt: HostRuntime) -> Result<(), Fail> {
-    let loopback = RuntimeLoopback(&rt);
-    let Ok(mut listener) = loopback.listen(0) else {
-        assert_eq!(&rt; "a free port", "none");
-        return Ok(());
-    };
-    assert_eq!(&rt; loopback.listen(listener.port()).is_err(), true);
-
-    // The client sends more bytes than are read. It gets the answer all the same, whatever is said of that.
-    for received in [Received::Whole, Received::Beginning] {
-        let mut client = TcpStream::connect(&rt, (Ipv4Addr::LOCALHOST, listener.port()))?;
-        client.write_all(b"hello, there")?;
-        client.shutdown(std::net::Shutdown::Write)?;
-        assert_eq!(&rt; answer_one(&mut listener, received), Ok(5));
-        let text = io::read_to_string(rt.alloc(), client)?;
-        assert_eq!(&rt; text.as_str(), "hello");
-    }
-    Ok(())
 }
 
 #[test]

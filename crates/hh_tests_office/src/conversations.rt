@@ -11,7 +11,7 @@ use hh_wire::Routes;
 use std::alloc::Global;
 
 /// The moment of all connections, 2024-06-29T22:26:40Z.
-pub const MOMENT: i64 = 1_719_700_000;
+const MOMENT: i64 = 1_719_700_000;
 
 /// More bytes than any request or reply has.
 pub const WHOLE: usize = 9_000;
@@ -65,13 +65,8 @@ pub const FORBIDDEN: &[u8] =
     b"HTTP/1.1 403 Forbidden\r\nContent-Type: application/json\r\nContent-Length: 33\r\n\
     Connection: close\r\n\r\n{\"name\":\"Forbidden\",\"refused\":60}";
 
-/// The reply to bytes that are no request.
-pub const BAD_REQUEST: &[u8] =
-    b"HTTP/1.1 400 Bad Request\r\nContent-Type: application/json\r\nContent-Length: 34\r\n\
-    Connection: close\r\n\r\n{\"name\":\"BadRequest\",\"refused\":65}";
-
 /// A new office.
-pub fn new_office(alloc: Global) -> Option<Office<'static, PlainTables>> {
+fn new_office(alloc: Global) -> Option<Office<'static, PlainTables>> {
     let settings = Settings {
         lead_minutes: LeadMinutes::default(),
         operator_key: OperatorKey::read(b"op-settle001")?,
@@ -108,15 +103,6 @@ impl<'a> Conversation<'a> {
             failed_reads: 0,
             failed_writes: 0,
             gets,
-        }
-    }
-
-    /// A client that sends everything at once, without a failure, and is refused before the office is
-    /// asked.
-    pub fn refused(sends: &'a [u8], gets: &'a [u8]) -> Conversation<'a> {
-        Conversation {
-            served: Ok(Served::Refused),
-            ..Conversation::of(sends, gets)
         }
     }
 

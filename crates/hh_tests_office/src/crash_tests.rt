@@ -7,101 +7,81 @@
 //! which are more than there are shares.
 
 use crate::disks::{Caches, Failing};
-use crate::stops::StopCounts;
-use crate::sweep::{ALL, Share, stops_of};
-use std::fmt::Debug;
+use crate::sweep::{Share, Stops, stops_of};
 use std::io;
 use std::test::Fail;
 
-/// Tells in which parts a disk failed, or what is wrong with a sweep. In the latter case no part counts.
-fn told<E: Debug + Copy>(rt: &HostRuntime, swept: Result<StopCounts, E>) -> io::Result<StopCounts> {
-    println!(rt; "{swept:?}")?;
-    Ok(swept.unwrap_or(StopCounts::NONE))
+/// In which parts a disk failed in a share of the rounds. What is wrong with them is told, and then no part
+/// counts.
+fn swept(
+    rt: &HostRuntime,
+    failing: Failing,
+    caches: Caches,
+    first: u64,
+    shares: u64,
+) -> io::Result<Stops> {
+    let stops = stops_of(rt.alloc(), failing, caches, Share { first, shares });
+    println!(rt; "{stops:?}")?;
+    Ok(stops.unwrap_or(Stops::NONE))
 }
 
-/// A share of the rounds in which the log fails.
-fn of_log(first: u64) -> Share {
-    Share { first, shares: 4 }
-}
-
-/// A share of the rounds in which the database's file fails.
-fn of_database(first: u64) -> Share {
-    Share { first, shares: 2 }
+/// Whether a disk failed in each part, with small caches.
+fn fails_in_each_part(
+    rt: &HostRuntime,
+    failing: Failing,
+    first: u64,
+    shares: u64,
+) -> io::Result<bool> {
+    let stops = swept(rt, failing, Caches::Small, first, shares)?;
+    Ok(stops.are_at_both_ends() && stops.are_in_each_request())
 }
 
 #[test]
 fn the_log_fails(rt: HostRuntime) -> Result<(), Fail> {
-    let stops = told(&rt, stops_of(rt.alloc(), Failing::Log, Caches::Large, ALL))?;
+    let stops = swept(&rt, Failing::Log, Caches::Large, 0, 1)?;
     assert!(rt; stops.are_at_both_ends() && stops.are_in_each_request());
     Ok(())
 }
 
 #[test]
 fn the_database_fails(rt: HostRuntime) -> Result<(), Fail> {
-    let stops = told(
-        &rt,
-        stops_of(rt.alloc(), Failing::Database, Caches::Large, ALL),
-    )?;
+    let stops = swept(&rt, Failing::Database, Caches::Large, 0, 1)?;
     assert!(rt; stops.are_at_both_ends());
     Ok(())
 }
 
 #[test]
 fn the_log_fails_with_small_caches_first_share(rt: HostRuntime) -> Result<(), Fail> {
-    let stops = told(
-        &rt,
-        stops_of(rt.alloc(), Failing::Log, Caches::Small, of_log(0)),
-    )?;
-    assert!(rt; stops.are_at_both_ends() && stops.are_in_each_request());
+    assert!(&rt; fails_in_each_part(&rt, Failing::Log, 0, 4)?);
     Ok(())
 }
 
 #[test]
 fn the_log_fails_with_small_caches_second_share(rt: HostRuntime) -> Result<(), Fail> {
-    let stops = told(
-        &rt,
-        stops_of(rt.alloc(), Failing::Log, Caches::Small, of_log(1)),
-    )?;
-    assert!(rt; stops.are_at_both_ends() && stops.are_in_each_request());
+    assert!(&rt; fails_in_each_part(&rt, Failing::Log, 1, 4)?);
     Ok(())
 }
 
 #[test]
 fn the_log_fails_with_small_caches_third_share(rt: HostRuntime) -> Result<(), Fail> {
-    let stops = told(
-        &rt,
-        stops_of(rt.alloc(), Failing::Log, Caches::Small, of_log(2)),
-    )?;
-    assert!(rt; stops.are_at_both_ends() && stops.are_in_each_request());
+    assert!(&rt; fails_in_each_part(&rt, Failing::Log, 2, 4)?);
     Ok(())
 }
 
 #[test]
 fn the_log_fails_with_small_caches_fourth_share(rt: HostRuntime) -> Result<(), Fail> {
-    let stops = told(
-        &rt,
-        stops_of(rt.alloc(), Failing::Log, Caches::Small, of_log(3)),
-    )?;
-    assert!(rt; stops.are_at_both_ends() && stops.are_in_each_request());
+    assert!(&rt; fails_in_each_part(&rt, Failing::Log, 3, 4)?);
     Ok(())
 }
 
 #[test]
 fn the_database_fails_with_small_caches_first_share(rt: HostRuntime) -> Result<(), Fail> {
-    let stops = told(
-        &rt,
-        stops_of(rt.alloc(), Failing::Database, Caches::Small, of_database(0)),
-    )?;
-    assert!(rt; stops.are_at_both_ends() && stops.are_in_each_request());
+    assert!(&rt; fails_in_each_part(&rt, Failing::Database, 0, 2)?);
     Ok(())
 }
 
 #[test]
 fn the_database_fails_with_small_caches_second_share(rt: HostRuntime) -> Result<(), Fail> {
-    let stops = told(
-        &rt,
-        stops_of(rt.alloc(), Failing::Database, Caches::Small, of_database(1)),
-    )?;
-    assert!(rt; stops.are_at_both_ends() && stops.are_in_each_request());
+    assert!(&rt; fails_in_each_part(&rt, Failing::Database, 1, 2)?);
     Ok(())
 }

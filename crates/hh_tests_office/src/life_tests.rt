@@ -1,7 +1,7 @@
 //! Tests of what no clause says: with ample memory an office is made in files in memory, and commands over
 //! them are answered, however the process of each ends.
 
-use crate::market::{LOADED_AT, PARTIES, asked, settings};
+use crate::requests::{LOADED_AT, PARTIES, asked, settings};
 use hh_file_life::{Ending, FileCommand, LifeStop, make_office, run_all};
 use hh_names::{FileName, Refusal};
 use hh_requests::{Action, Reply, Upload};

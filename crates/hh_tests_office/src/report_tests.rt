@@ -1,103 +1,131 @@
-//! Tests of what no clause says: with ample memory reports are written whole, over both kinds of tables,
-//! however large the pieces are that the output takes. A failure of the output is told and leaves the next
-//! report whole.
+//! Tests of what no clause says and no program shows: over both kinds of tables, reports are written whole
+//! into an output that takes one byte in a call, also after an output has failed. Outputs of the system
+//! that fail are in `tests/`. And how many Settlement Periods of a day may have changed since its last run.
 
-use crate::market::{run, settings, settled};
-use crate::outputs::{Attempt, first_wrong};
-use hh_office::Office;
+use crate::disks::{Caches, Failing, new_disks, open};
+use crate::requests::{OPERATOR, all_requests, run_of, settings};
+use crate::trouble::Trouble;
+use hh_devices::MemorySink;
+use hh_office::{Office, ReportStop};
 use hh_plain_tables::PlainTables;
 use hh_requests::Report;
 use hh_rows::Settings;
-use hh_runs::RunKey;
+use hh_runs::RunKind;
 use hh_sqlstore::SqlTables;
-use hh_store::{StoreFault, Tables};
-use hh_time::london;
-use sqlite::{Connection, FileStore, Files, Options};
-use sqlite_disk::Memory;
+use hh_store::Tables;
+use hh_time::{Day, london};
+use sqlite::{Alter, Connection};
 use std::alloc::{AllocError, Global};
 use std::test::Fail;
 
-/// After how many bytes the outputs fail. The last of them fails when the day report is whole.
-const DAY_FAILURES: [usize; 6] = [0, 1, 25, 156, 26_983, 26_984];
+/// More bytes than any of the reports has.
+const ROOM: usize = 30_000;
 
-/// How far an office gets with the market's files and its run, and the first wrong result for the day
-/// report, the results and the balances.
-#[derive(Clone, Copy, Debug, PartialEq, Eq)]
-struct Trial {
-    settled: usize,
-    wrong: [Option<Attempt>; 3],
+/// After how many bytes an output fails.
+const CUT: usize = 25;
+
+/// Asks an office for a report, by the call for that report.
+fn write<T: Tables>(
+    office: &mut Office<'_, T>,
+    report: &Report,
+    out: &mut MemorySink,
+) -> Result<(), ReportStop> {
+    match report {
+        Report::Day(run) => office.report_day(OPERATOR, run.date, run.kind, out),
+        Report::Results(run) => office.report_results(OPERATOR, run.date, run.kind, out),
+        Report::Balances => office.report_balances(OPERATOR, out),
+    }
 }
 
-/// What should come.
-const WANTED: Trial = Trial {
-    settled: 6,
-    wrong: [None; 3],
-};
-
-/// What comes of a new office.
-fn tried<T: Tables>(
+/// Whether a report of this size is cut off by an output that fails, and then written whole by bytes.
+fn is_written<T: Tables>(
     alloc: Global,
     office: &mut Office<'_, T>,
-    run: &RunKey,
-) -> Result<Trial, AllocError> {
-    let settled = settled(alloc, office, run)?;
-    let day = first_wrong(alloc, office, &Report::Day(*run), 26_984, &DAY_FAILURES)?;
-    let results = first_wrong(alloc, office, &Report::Results(*run), 15_613, &[])?;
-    let balances = first_wrong(alloc, office, &Report::Balances, 63, &[])?;
-    Ok(Trial {
-        settled,
-        wrong: [day, results, balances],
-    })
+    report: &Report,
+    size: usize,
+) -> Result<bool, AllocError> {
+    let mut cut = MemorySink::with_room(alloc, ROOM)?.failing_after(CUT);
+    let stopped = write(office, report, &mut cut) == Err(ReportStop::Write);
+    let mut whole = MemorySink::with_room(alloc, ROOM)?.in_pieces(1);
+    let done = write(office, report, &mut whole) == Ok(());
+    Ok(stopped && done && are_taken(&cut, &whole, size))
+}
+
+/// Whether an output has taken the first bytes of what another has taken whole, and failed once.
+fn are_taken(cut: &MemorySink, whole: &MemorySink, size: usize) -> bool {
+    cut.taken().len() == CUT
+        && cut.failures() == 1
+        && whole.taken().starts_with(cut.taken())
+        && whole.taken().len() == size
+        && whole.failures() == 0
+}
+
+/// Whether an office writes each of its reports, once it is asked all requests.
+fn are_written<T: Tables>(alloc: Global, office: &mut Office<'_, T>) -> Result<bool, Trouble> {
+    let requests = all_requests(alloc)?;
+    for request in &requests {
+        drop(office.handle(request.0, &request.1));
+    }
+    let run = run_of(RunKind::SF).ok_or(Trouble::Word)?;
+    let reports = [
+        (Report::Day(run), 26_984),
+        (Report::Results(run), 15_613),
+        (Report::Balances, 63),
+    ];
+    for (report, size) in &reports {
+        if !is_written(alloc, office, report, *size)? {
+            return Ok(false);
+        }
+    }
+    Ok(true)
 }
 
 #[test]
 fn reports_over_tables_in_memory(rt: HostRuntime) -> Result<(), Fail> {
-    let run = run().ok_or("run")?;
-    let settings = settings().ok_or("settings")?;
-    let tables = PlainTables::new(rt.alloc(), settings);
+    let tables = PlainTables::new(rt.alloc(), settings().ok_or("settings")?);
     let mut office = Office::new(rt.alloc(), tables, london());
-    assert_eq!(rt; tried(rt.alloc(), &mut office, &run)?, WANTED);
+    let written = are_written(rt.alloc(), &mut office);
+    let mut tables = office.into_tables();
+    assert_eq!(rt; changed(written, &mut tables), Ok(48));
     Ok(())
 }
 
-fn over_disks(alloc: Global) -> Option<Connection<FileStore<Memory>>> {
-    let files = Files {
-        log: Memory::new(alloc),
-        db: Memory::new(alloc),
-    };
-    if !files.may_be_used() {
-        return None;
+/// How many Settlement Periods of the day may have changed, if its reports are written.
+fn changed<T: Tables>(written: Result<bool, Trouble>, tables: &mut T) -> Result<usize, Trouble> {
+    if !written? {
+        return Err(Trouble::Balances);
     }
-    Connection::open_files(alloc, files, Options::new(1)).ok()
+    let run = run_of(RunKind::SF).ok_or(Trouble::Word)?;
+    let day = Day::of(run.date, &london()).ok_or(Trouble::Word)?;
+    Ok(tables.day_data(&day)?.changed())
 }
 
-/// What comes of a new office in a database.
-fn tried_over(
+/// How many Settlement Periods may have changed after the last run of an office in a new database, which
+/// writes its reports.
+fn changed_over<S: Alter>(
     alloc: Global,
-    connection: Connection<FileStore<Memory>>,
+    connection: Connection<S>,
     settings: Settings,
-    run: &RunKey,
-) -> Result<Trial, StoreFault> {
+) -> (Result<usize, Trouble>, Connection<S>) {
     match SqlTables::create(alloc, connection, settings) {
         Ok(tables) => {
             let mut office = Office::new(alloc, tables, london());
-            let tried = tried(alloc, &mut office, run);
-            let connection = office.into_tables().into_connection();
-            drop(connection.into_store().close());
-            Ok(tried?)
+            let written = are_written(alloc, &mut office);
+            let mut tables = office.into_tables();
+            let count = changed(written, &mut tables);
+            (count, tables.into_connection())
         }
-        Err((fault, connection)) => {
-            drop(connection.into_store().close());
-            Err(fault)
-        }
+        Err((fault, connection)) => (Err(Trouble::from(fault)), connection),
     }
 }
 
 #[test]
 fn reports_over_tables_in_a_database(rt: HostRuntime) -> Result<(), Fail> {
-    let run = run().ok_or("run")?;
     let settings = settings().ok_or("settings")?;
-    let connection = over_disks(rt.alloc()).ok_or("disks")?;
-    assert_eq!(rt; tried_over(rt.alloc(), connection, settings, &run)?, WANTED);
+    let files = new_disks(rt.alloc(), Failing::Log, u64::MAX);
+    let connection = open(rt.alloc(), files, Caches::Large).ok().ok_or("disks")?;
+    let (count, connection) = changed_over(rt.alloc(), connection, settings);
+    drop(connection.into_store().close());
+    assert_eq!(rt; count, Ok(0));
     Ok(())
 }

@@ -3,45 +3,34 @@
 use crate::course::Course;
 use crate::disks::{Caches, Failing, FusedDisk, Loss, left_by, new_disks, open};
 use crate::requests::REQUESTS;
-use crate::stops::Part;
+use crate::sweep::Part;
 use crate::trouble::Trouble;
 use hh_office::Office;
 use hh_sqlstore::{Rising, SqlTables};
 use hh_store::StoreFault;
 use hh_time::london;
-use sqlite::{Alter, Connection, FileStore, Files};
+use sqlite::{Alter, Connection, Files};
 use sqlite_disk::Disk;
 use std::alloc::Global;
 
-/// In which part a disk failed, if it did, and whether what met the failure was done all the same, for each
-/// loss.
-#[derive(Clone, Copy, Debug, PartialEq, Eq)]
-pub struct Round {
-    pub stop: Option<Part>,
-    pub done: [bool; 2],
-}
-
 /// Makes a new office on disks, one of which lets `calls` calls pass, asks it all requests and closes it,
 /// up to the first failure that is told. Then what the disks have is opened, for each loss, and all that is
-/// left is asked.
+/// left is asked. Answers in which part a disk failed, if it did.
 pub fn make_round(
     alloc: Global,
     course: &Course,
     failing: Failing,
     caches: Caches,
     calls: u64,
-) -> Result<Round, Trouble> {
+) -> Result<Option<Part>, Trouble> {
     let files = new_disks(alloc, failing, calls);
     let (stop, mut stopped) = until_stop(alloc, course, files, caches);
     let stop = stop?;
-    let left = left_by(alloc, &mut stopped, Loss::Nothing)?;
-    let whole = behind_stop(alloc, course, left, caches, stop)?;
-    let left = left_by(alloc, &mut stopped, Loss::Unsynced)?;
-    let synced = behind_stop(alloc, course, left, caches, stop)?;
-    Ok(Round {
-        stop,
-        done: [whole, synced],
-    })
+    for loss in [Loss::Nothing, Loss::Unsynced] {
+        let left = left_by(alloc, &mut stopped, loss)?;
+        see_behind(alloc, course, left, caches, stop)?;
+    }
+    Ok(stop)
 }
 
 /// Goes on until a disk fails. The disks are returned.
@@ -90,44 +79,36 @@ fn asked_from<S: Alter>(
     (stop, office.into_tables().into_connection())
 }
 
-/// Opens what the disks have after a stop, and goes on from there. Answers whether what met the stop was
-/// done.
-fn behind_stop(
+/// Opens what the disks have after a stop, and goes on from there.
+fn see_behind(
     alloc: Global,
     course: &Course,
     left: Files<FusedDisk>,
     caches: Caches,
     stop: Option<Part>,
-) -> Result<bool, Trouble> {
+) -> Result<(), Trouble> {
     let Ok(connection) = open(alloc, left, caches) else {
         return Err(Trouble::Disk);
     };
-    let (done, connection) = match stop {
+    let (seen, connection) = match stop {
         Some(Part::Making) => found_new(alloc, course, connection),
         Some(Part::Request(place)) => found(alloc, course, connection, place),
         Some(Part::Balances | Part::Closing) | None => found(alloc, course, connection, REQUESTS),
     };
     drop(connection.into_store().close());
-    done
+    seen
 }
 
-/// Checks that the office in a database is a new one. If there is none, a new one is made. Answers whether
-/// it was there.
+/// Checks that the office in a database is a new one. If there is none, a new one is made.
 fn found_new<S: Rising>(
     alloc: Global,
     course: &Course,
     connection: Connection<S>,
-) -> (Result<bool, Trouble>, Connection<S>) {
+) -> (Result<(), Trouble>, Connection<S>) {
     match SqlTables::adopt(alloc, connection) {
-        Ok(tables) => {
-            let (checked, connection) = checked_new(alloc, course, tables);
-            (checked.map(|()| true), connection)
-        }
+        Ok(tables) => checked_new(alloc, course, tables),
         Err((_, connection)) => match SqlTables::create(alloc, connection, course.settings()) {
-            Ok(tables) => {
-                let (checked, connection) = checked_new(alloc, course, tables);
-                (checked.map(|()| false), connection)
-            }
+            Ok(tables) => checked_new(alloc, course, tables),
             Err((fault, connection)) => (Err(Trouble::from(fault)), connection),
         },
     }
@@ -140,26 +121,23 @@ fn checked_new<S: Alter>(
     tables: SqlTables<S>,
 ) -> (Result<(), Trouble>, Connection<S>) {
     let mut connection = tables.into_connection();
-    let checked = course.see_new(alloc, &mut connection);
+    let checked = course.see(alloc, &mut connection, 0);
     (checked, connection)
 }
 
 /// Checks that the tables of a database are those before the request at a place or those after it. Then
-/// this request and the later ones are asked. Answers whether the tables were those after it.
+/// this request and the later ones are asked.
 fn found<S: Rising>(
     alloc: Global,
     course: &Course,
     connection: Connection<S>,
     place: usize,
-) -> (Result<bool, Trouble>, Connection<S>) {
+) -> (Result<(), Trouble>, Connection<S>) {
     match SqlTables::adopt(alloc, connection) {
         Ok(tables) => {
             let mut connection = tables.into_connection();
             match course.is_behind(alloc, &mut connection, place) {
-                Ok(done) => {
-                    let (asked, connection) = asked_again(alloc, course, connection, place);
-                    (asked.map(|()| done), connection)
-                }
+                Ok(_) => asked_again(alloc, course, connection, place),
                 Err(trouble) => (Err(trouble), connection),
             }
         }
@@ -178,9 +156,22 @@ fn asked_again<S: Rising>(
     match SqlTables::adopt(alloc, connection) {
         Ok(tables) => {
             let (stop, mut connection) = asked_from(alloc, course, tables, place);
-            let checked = course.see_end(alloc, &mut connection, stop);
+            let checked = see_end(alloc, course, &mut connection, stop);
             (checked, connection)
         }
         Err((fault, connection)) => (Err(Trouble::from(fault)), connection),
     }
+}
+
+/// Checks that nothing failed again, and that the tables of a database are those after all requests.
+fn see_end<S: Alter>(
+    alloc: Global,
+    course: &Course,
+    connection: &mut Connection<S>,
+    stop: Result<Option<Part>, Trouble>,
+) -> Result<(), Trouble> {
+    if let Some(part) = stop? {
+        return Err(Trouble::StoppedAgain(part));
+    }
+    course.see(alloc, connection, REQUESTS)
 }

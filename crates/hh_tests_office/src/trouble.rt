@@ -1,8 +1,8 @@
 //! Why a trial ends before it is done.
 
-use crate::stops::Part;
+use crate::sweep::Part;
 use hh_keyed_rows::RowFault;
-use hh_store::{OutputFault, StoreFault};
+use hh_store::StoreFault;
 use std::alloc::{AllocError, AllocFailed};
 use std::io;
 
@@ -23,10 +23,6 @@ pub enum Trouble {
     Balances,
     /// The store refused again, over disks without a fuse.
     StoppedAgain(Part),
-    /// The office over tables in memory gave wrong answers.
-    Worked,
-    /// After the request at a place, the two kinds of tables tell different things.
-    Told(usize),
     /// The tables are neither those before the request at a place nor those after it.
     Tables(usize),
     /// All of a great number of rounds met a stop.
@@ -65,16 +61,6 @@ impl From<StoreFault> for Trouble {
         match fault {
             StoreFault::Memory => Trouble::Memory,
             StoreFault::Store => Trouble::Store,
-        }
-    }
-}
-
-impl From<OutputFault> for Trouble {
-    fn from(fault: OutputFault) -> Trouble {
-        match fault {
-            OutputFault::Memory => Trouble::Memory,
-            OutputFault::Store => Trouble::Store,
-            OutputFault::Write => Trouble::Disk,
         }
     }
 }
