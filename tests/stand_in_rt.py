@@ -1,11 +1,12 @@
-"""A stand-in for `rt`: notes each call, and builds a program that prints what it was built from. Its version is `a stand-in`.
+"""A stand-in for `rt`: notes each crate that a call proves, and builds a program that prints what it was built from. A call proves
+all crates below its own, the lowest first, and then its own. Its version is `a stand-in`.
 
-RT_STAND_IN names a folder. Its file `calls` gets a line for each call. Other files there tell what else
-a crate's call does:
+RT_STAND_IN names a folder. Its file `calls` gets a line for each crate. Other files there tell what else
+the proof of a crate does:
 
     tells-CRATE   prints the file's text
     fails-CRATE   ends with the status in the file, and builds nothing
-    edit-CRATE    writes the file's text over crates/hh_settle/src/main.rt during the call
+    edit-CRATE    writes the file's text over crates/hh_settle/src/main.rt during the proof
     waits-CRATE   makes begun-CRATE, and waits until the file is gone, or until the call is ended
 """
 import os
@@ -16,6 +17,7 @@ import sys
 import time
 
 CONTROL = pathlib.Path(os.environ["RT_STAND_IN"])
+CRATES = pathlib.Path.cwd().parent
 PROGRAM = '#!/bin/sh\nprintf "%s|" {source} "$@"\nexit "${{PROGRAM_STATUS:-0}}"\n'
 
 
@@ -32,14 +34,10 @@ def note(words):
         calls.write(f"{' '.join(words)}\n")
 
 
-def main(words):
-    if words == ["version"]:
-        print("a stand-in")
-        return 0
-    crate = pathlib.Path.cwd().name
-    note([crate, words[0], *words[1:2]])
-    source = pathlib.Path("../hh_settle/src/main.rt")
-    text = source.read_text().strip()
+def prove(crate, words):
+    """Proves one crate, and gives the status with which the call then ends, if it ends."""
+    note([crate, *words])
+    source = CRATES / "hh_settle" / "src" / "main.rt"
     print(f"proving {crate}", flush=True)
     if asked("tells", crate) is not None:
         print(asked("tells", crate), file=sys.stderr, flush=True)
@@ -53,15 +51,35 @@ def main(words):
     if asked("fails", crate) is not None:
         print(f"{crate} has an open goal", file=sys.stderr)
         return int(asked("fails", crate))
-    out = pathlib.Path("out")
-    out.mkdir(exist_ok=True)
-    (out / "kept").touch()
-    if words[0] == "run":
-        program = out / crate
-        program.write_text(PROGRAM.format(source=shlex.quote(text)))
-        program.chmod(0o755)
-        return subprocess.run([program, *words[words.index("--") + 1 :]]).returncode
+    (CRATES / crate / "out").mkdir(exist_ok=True)
+    (CRATES / crate / "out" / "kept").touch()
+    print(f"crate {crate}: modules loaded=0 checked=1", flush=True)
     return 0
+
+
+def main(words):
+    if words == ["version"]:
+        print("a stand-in")
+        return 0
+    crate = pathlib.Path.cwd().name
+    text = (CRATES / "hh_settle" / "src" / "main.rt").read_text().strip()
+    uses = dict(line.split(":") for line in (CRATES.parent / "crates.txt").read_text().splitlines() if ":" in line)
+    for name in below(crate, {name: words.split() for name, words in uses.items()}):
+        status = prove(name, words[: words.index("--")])
+        if status != 0:
+            return status
+    program = pathlib.Path("out") / crate
+    program.write_text(PROGRAM.format(source=shlex.quote(text)))
+    program.chmod(0o755)
+    return subprocess.run([program, *words[words.index("--") + 1 :]]).returncode
+
+
+def below(crate, uses):
+    """A crate and those below it, the lowest first."""
+    found = []
+    for name in uses[crate]:
+        found += [lower for lower in below(name, uses) if lower not in found] if name in uses else []
+    return [*found, crate]
 
 
 if __name__ == "__main__":

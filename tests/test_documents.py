@@ -124,7 +124,7 @@ class Links(unittest.TestCase):
     needs_programs = False
 
     def test_each_link_leads_somewhere(self):
-        pages = [page for folder in (".", "docs", "tests", "crates", "bench", "examples") for page in (HOME / folder).glob("*.md")]
+        pages = [page for folder in (".", "docs", "tests", "tests/versions", "crates", "bench", "examples") for page in (HOME / folder).glob("*.md")]
         found = [(page, *link) for page in pages for link in LINK.findall(BLOCK.sub("", page.read_text(encoding="utf-8")))]
         self.assertGreater(len(found), 300)
         for page, file, anchor in found:

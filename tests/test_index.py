@@ -113,12 +113,13 @@ class Index(unittest.TestCase):
         return PAGE.read_text(encoding="utf-8").split(f"\n## {heading}\n")[1].split("\n## ")[0]
 
     def check_definition(self, cell):
-        """A definition is in the file that the cell names. Returns the crate of the file."""
-        place, *names = NAME.findall(cell)
-        crate, _, file = place.partition("/")
-        text = (HOME / "crates" / crate / "specs" / f"{file}.antt").read_text(encoding="utf-8")
-        for name in names:
-            self.assertTrue(re.search(rf"(?m)^\s*(?:(?:abbrev|unfoldable) )?pub (?:record )?{re.escape(name)}\b", text), name)
+        """A definition is in the file that the cell names before it. Returns the crate of the last file."""
+        for part in cell.split(";"):
+            place, *names = NAME.findall(part)
+            crate, _, file = place.partition("/")
+            text = (HOME / "crates" / crate / "specs" / f"{file}.antt").read_text(encoding="utf-8")
+            for name in names:
+                self.assertTrue(re.search(rf"(?m)^\s*(?:(?:abbrev|unfoldable) )?pub (?:record )?{re.escape(name)}\b", text), name)
         return crate
 
     def check_code(self, crate, cell):

@@ -1,11 +1,13 @@
 """Proves and builds the program where it isn't built from the sources as they are.
 
-The crates that the program depends on are proved one after the other, each on all cores: `rt` holds a
-crate and all below it while it proves it, so that two calls of `rt` would only wait for each other.
+One call of `rt` does all: it proves the crates that the program depends on and that aren't proved, one after the other, each on
+all cores, and then builds the program. `rt` of `rattle-kit-13b` sums up the sources of all crates below at each call, so one call
+for each crate would take much longer.
 """
 
 import fcntl
 import os
+import re
 import shutil
 import signal
 import subprocess
@@ -20,6 +22,8 @@ EXAMPLE = ["period", f"{HOME}/examples/meter.csv", f"{HOME}/examples/contracts.c
 MOST_JOBS = 8  # more seldom help a proof
 JOB_MEMORY = 2_000_000_000
 LANE_MEMORY = 4_000_000_000  # a check of the largest crate, tests and all
+# The line that `rt` prints when it has proved a crate.
+PROVED = re.compile(rb"crate (\w+): ")
 
 
 def available_memory():
@@ -65,17 +69,16 @@ def hold():
     return held
 
 
-def run_rt(crate, words, log):
-    """Runs `rt` in a crate's folder, with its lines in the log, and gives its status. Where this call
-    is interrupted, so is `rt`, which ends all that it has started."""
-    log.write(f"== {crate}: rt {' '.join(words)}\n".encode(errors="surrogateescape"))
-    how = {"cwd": os.path.join(CRATES, crate), "stdin": subprocess.DEVNULL}
+def run_rt(words, log, heard):
+    """Runs `rt` in the program's folder, with its lines in the log, and gives its status. Each line is heard. Where this call is
+    interrupted, so is `rt`, which ends all that it has started."""
+    log.write(f"== rt {' '.join(words)}\n".encode(errors="surrogateescape"))
+    how = {"cwd": os.path.dirname(OUT), "stdin": subprocess.DEVNULL}
     ran = subprocess.Popen(["rt", *words], stdout=subprocess.PIPE, stderr=subprocess.STDOUT, **how)
     try:
         for line in ran.stdout:
             log.write(line)
-            if line.startswith(b"rt: waiting for another rt"):
-                say(f"{crate}: another call of `rt` works on it, or below it; waiting for that")
+            heard(line)
         return ran.wait()
     except BaseException:
         for number in INTERRUPTS:
@@ -90,21 +93,37 @@ def last_lines(path):
         return "".join(file.readlines()[-20:])
 
 
+class Course:
+    """How far a call of `rt` is that proves these crates."""
+
+    def __init__(self, crates):
+        self.crates, self.estimate, self.began = crates, Estimate(crates), time.monotonic()
+
+    def heard(self, line):
+        """Takes in a line that `rt` has printed."""
+        proved = PROVED.match(line)
+        if proved and proved[1].decode() in self.crates[:-1]:
+            self.done(proved[1].decode(), "proved")
+        elif line.startswith(b"rt: waiting for another rt"):
+            say("another call of `rt` works on these crates; waiting for that")
+
+    def done(self, crate, how):
+        """Tells that a crate is done, and so are all before it."""
+        now, number = time.monotonic(), self.crates.index(crate) + 1
+        self.estimate.hear(crate, now - self.began)
+        say(f"[{number}/{len(self.crates)}] {crate}: {how}, {now - self.began:.0f} s{self.estimate.told()}")
+        self.began = now
+
+
 def prove(crates, log):
-    """Proves each crate in turn. The last is the program: it is built too, and has to settle the
+    """Proves the crates, the lowest first. The last is the program: it is built too, and has to settle the
     example, since a status of 0 then is none that `rt` gives for a fault of its own."""
-    many, estimate = str(jobs()), Estimate(crates)
-    for number, crate in enumerate(crates, 1):
-        at, began = f"[{number}/{len(crates)}] {crate}", time.monotonic()
-        is_program = crate == "hh_settle"
-        say(f"{at}: {'proving and building, which is the longest step' if is_program else 'proving'}{estimate.told()}")
-        words = ["run", "--jobs", many, "--", *EXAMPLE] if is_program else ["lib", "--jobs", many]
-        if run_rt(crate, words, log) != 0 or (is_program and not os.access(PROGRAM, os.X_OK)):
-            os.write(2, last_lines(LOG).encode())
-            raise Stop(NOT_BUILT, f"{at} wasn't proved and built; the whole log is {LOG}")
-        lasted = time.monotonic() - began
-        estimate.hear(crate, lasted)
-        say(f"{at}: {'built' if is_program else 'proved'}, {lasted:.0f} s")
+    course = Course(crates)
+    status = run_rt(["run", "--jobs", str(jobs()), "--", *EXAMPLE], log, course.heard)
+    if status != 0 or not os.access(PROGRAM, os.X_OK):
+        os.write(2, last_lines(LOG).encode())
+        raise Stop(NOT_BUILT, f"the program wasn't proved and built; the whole log is {LOG}")
+    course.done(crates[-1], "proved and built")
 
 
 def build(crates):

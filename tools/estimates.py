@@ -3,7 +3,6 @@
 import os
 
 TIMES = os.path.join(os.path.dirname(os.path.realpath(__file__)), "times.csv")
-AT_ONCE = 0.2  # of the time of a proof: a crate that takes less was proved before
 
 
 def times():
@@ -22,15 +21,16 @@ class Estimate:
         self.here = self.there = 0.0
 
     def hear(self, crate, seconds):
-        """Takes in how long a crate took here."""
-        there = self.left.pop(crate)
-        if there is not None and seconds > AT_ONCE * there:
+        """Takes in how long a crate took here. Those before it that took nothing were proved before."""
+        before = list(self.left)
+        there = [self.left.pop(name) for name in before[: before.index(crate) + 1]][-1]
+        if there is not None:
             self.here, self.there = self.here + seconds, self.there + there
 
     def told(self):
-        """What is told of the time that is left. Nothing where it isn't known of each crate."""
-        if None in self.left.values():
+        """What is told of the time that is left. Nothing where none is left, or it isn't known of each crate."""
+        if not self.left or None in self.left.values():
             return ""
         factor = self.here / self.there if self.there else 1.0
         minutes = max(1, round(factor * sum(self.left.values()) / 60))
-        return f"; {minutes} minutes left, or fewer where crates were proved before"
+        return f"; {minutes} minute{'s' * (minutes > 1)} left, or fewer where crates were proved before"

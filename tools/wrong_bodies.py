@@ -10,6 +10,7 @@ Those that were refused are noted in crates/CRATE/must-fail-by-hand/TRIED, as tr
 its contract has changed since.
 """
 import argparse
+import os
 import pathlib
 import re
 import shutil
@@ -25,6 +26,8 @@ from tried import Sums, note, noted, pairs_of
 
 HOME = pathlib.Path(__file__).resolve().parent.parent
 BY_HAND = "must-fail-by-hand"
+# The folder in which a crate's check keeps its work.
+KEPT = "incremental"
 # The type that a block is of, behind `for` where there is that word.
 IMPL = re.compile(r"(?m)^impl\b(?:[^{\n]* for)?(?:<[^{\n]*?>)? (\w+)")
 # An error of a proof, with the lines that belong to it.
@@ -197,7 +200,11 @@ def try_and_note(copy, crate, names):
     """Tries the wrong bodies of a crate with these names, and notes which are refused. The sums are those before the trial, so that a
     contract that changes meanwhile has no record. How many are refused, and how many are not."""
     folder, sums = HOME / "crates" / crate / BY_HAND, sums_of(crate)
+    work, there = (home / "crates" / crate / "out" / KEPT for home in (HOME, copy))
+    if work.is_dir():
+        shutil.copytree(work, there)
     passed, failed = try_crate(copy, crate, names)
+    shutil.rmtree(there, ignore_errors=True)
     kept = {name: sum for name, sum in noted(folder).items() if name in sums and name not in failed}
     note(folder, {**kept, **{name: sums[name] for name in passed}})
     return len(passed), len(failed)
@@ -226,11 +233,23 @@ def size_of(crate):
 
 
 def copy_into(room):
-    """A copy of the repository, with what earlier checks have kept there."""
+    """A copy of the repository, with the libraries that earlier checks have built there. These are linked, since they are never changed
+    but only replaced. What a check keeps for the next one is copied where it is needed."""
     copy = pathlib.Path(tempfile.mkdtemp(dir=room)) / "copy"
-    shutil.copytree(HOME, copy, symlinks=True, ignore=shutil.ignore_patterns(".git"))
+    shutil.copytree(HOME, copy, symlinks=True, ignore=shutil.ignore_patterns(".git", KEPT), copy_function=link_or_copy)
     (copy / ".git").mkdir()
     return copy
+
+
+def link_or_copy(source, copy):
+    """Links a file of a built library, where that can be. Copies any other."""
+    if "/out/rlib/" in source:
+        try:
+            os.link(source, copy)
+            return
+        except OSError:
+            pass  # another file system
+    shutil.copy2(source, copy)
 
 
 def try_all(names, room, lanes):

@@ -9,7 +9,7 @@ use Rattle.hh_states.specs.Steps.{after_load, after_run}
 use Rattle.hh_rules.specs.declared.positions.Position.{Position}
 use Rattle.hh_rules.specs.declared.positions.PositionKey.{PositionKey}
 use Rattle.hh_tables.specs.Tables.{Table}
-use Rattle.hh_beside.specs.Beside.{Beside, agrees, are_days_accounted_for, are_positions_right, is_among}
+use Rattle.hh_states.specs.Beside.{Beside, agrees, are_days_accounted_for, are_positions_right, is_among}
 use Rattle.hh_rows.specs.Keys.{settlement_period_cmp}
 use Rattle.hh_rows.specs.declared.settlement_period.SettlementPeriod.{SettlementPeriod}
 use Rattle.hh_beside.specs.DayLaws.{HaveTheSame}

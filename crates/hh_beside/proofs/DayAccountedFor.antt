@@ -19,7 +19,7 @@ use Rattle.hh_states.specs.PeriodSettlement.{settled, terms_at}
 use Rattle.hh_states.specs.Runs.{last_of}
 use Rattle.hh_state_laws.proofs.ApartLaws.{all-before-map, all-filter, all-weaken}
 use Rattle.hh_state_laws.proofs.RisingLaws.{filter-passes}
-use Rattle.hh_beside.specs.Beside.{are_days_accounted_for, is_among, is_day_accounted_for, is_accounted_for, is_still, latest_on, period_of_run, terms_for}
+use Rattle.hh_states.specs.Beside.{are_days_accounted_for, is_among, is_day_accounted_for, is_accounted_for, is_still, latest_on, period_of_run, terms_for}
 use Rattle.hh_beside.specs.DayLaws.{AccountedForByTheSame, AccountedForWhereAllTouched, UntouchedHasPrice, UntouchedIsSettled}
 use Rattle.hh_beside.specs.Keeping.{periods_of_runs}
 use Rattle.hh_beside.proofs.DayTests.{tells_periods}

@@ -17,7 +17,7 @@ use Rattle.hh_state_laws.proofs.AcceptedLaws.{rows_valued}
 use Rattle.hh_state_laws.proofs.ApartLaws.{all-weaken}
 use Rattle.hh_state_laws.proofs.ConsistentLaws.{reached_consistent}
 use Rattle.hh_state_laws.proofs.ReachLaws.{load_effect}
-use Rattle.hh_beside.specs.Beside.{are_days_accounted_for, is_among, is_accounted_for, is_same_period, is_still, period_of_run, terms_for}
+use Rattle.hh_states.specs.Beside.{are_days_accounted_for, is_among, is_accounted_for, is_same_period, is_still, period_of_run, terms_for}
 use Rattle.hh_beside.specs.DayLaws.{AccountedForAfterLoads, UntouchedStays}
 use Rattle.hh_beside.specs.Keeping.{touched_by}
 use Rattle.hh_beside.proofs.DayAccountedFor.{among_first, among_second, days_accounted_for, latest_accounted_for}

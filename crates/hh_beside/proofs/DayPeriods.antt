@@ -36,7 +36,7 @@ use Rattle.hh_state_laws.proofs.ResultLaws.{period_rises}
 use Rattle.hh_state_laws.proofs.RisingLaws.{Rises, all-both, is_not_below, map-map, own_block, read_as_they_came, rising_if_sorted, second_below}
 use Rattle.hh_state_laws.proofs.RunRowLaws.{all_blocks, all_of}
 use Rattle.hh_state_laws.proofs.SettledLaws.{a_share_each, figures_shown}
-use Rattle.hh_beside.specs.Beside.{credit_row, is_credit_of, is_result_of, period_of_run}
+use Rattle.hh_states.specs.Beside.{credit_row, is_credit_of, is_result_of, period_of_run}
 use Rattle.hh_beside.specs.DayLaws.{HoldsPeriods}
 
 -- the elements that pass two tests are those of the first's that pass the second

@@ -20,7 +20,7 @@ use Rattle.hh_state_laws.proofs.ApartLaws.{all-append, all-map, all-weaken}
 use Rattle.hh_state_laws.proofs.ReadyLaws.{all_made}
 use Rattle.hh_state_laws.proofs.RunRowLaws.{all_of}
 use Rattle.hh_state_laws.proofs.SettledLaws.{own_credits}
-use Rattle.hh_beside.specs.Beside.{period_of_run, terms_for}
+use Rattle.hh_states.specs.Beside.{period_of_run, terms_for}
 use Rattle.hh_beside.specs.DayLaws.{UntouchedHasReadings}
 use Rattle.hh_beside.proofs.DayAccountedFor.{untouched_is_still}
 use Rattle.hh_beside.proofs.DayTests.{tells_periods}

@@ -52,7 +52,7 @@ use Rattle.hh_state_laws.proofs.ApartLaws.{all-filter, all-weaken, below_lacks, 
 use Rattle.hh_state_laws.proofs.ConsistentLaws.{NoneMet, consistent_with, none_met}
 use Rattle.hh_state_laws.proofs.EffectiveLaws.{not_passed, one_account, wider_holds}
 use Rattle.hh_state_laws.proofs.PutLaws.{stays-put_new}
-use Rattle.hh_beside.specs.Beside.{is_among, terms_for}
+use Rattle.hh_states.specs.Beside.{is_among, terms_for}
 use Rattle.hh_beside.specs.Keeping.{touched_by}
 
 -- ---- tables after a row is put

@@ -39,7 +39,7 @@ use Rattle.hh_state_laws.proofs.RisingLaws.{all-both, filter_map-if}
 use Rattle.hh_state_laws.proofs.RunLaws.{run_effect, with_former-append}
 use Rattle.hh_state_laws.proofs.RunReadLaws.{holds_runs_of_dates}
 use Rattle.hh_state_laws.proofs.RunRowLaws.{credits_own, results_own}
-use Rattle.hh_beside.specs.Beside.{credit_row, is_among, is_accounted_for, is_still, latest_on, period_of_run, terms_for}
+use Rattle.hh_states.specs.Beside.{credit_row, is_among, is_accounted_for, is_still, latest_on, period_of_run, terms_for}
 use Rattle.hh_beside.specs.DayLaws.{AccountedForAfterRuns}
 use Rattle.hh_beside.proofs.DayAccountedFor.{IsRunAccountedFor, days_accounted_for, latest_accounted_for, latest_of_date}
 use Rattle.hh_beside.proofs.DayLoads.{touched_or_still}

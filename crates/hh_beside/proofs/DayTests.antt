@@ -9,7 +9,7 @@ use Rattle.std.specs.Cmp.{eq_by_cmp_equiv}
 use Rattle.hh_names.specs.declared.account.Account.{Account}
 use Rattle.hh_names.specs.Accounts.{account_cmp, is_same_account}
 use Rattle.hh_names.proofs.AccountLaws.{account_total, exact_accounts}
-use Rattle.hh_beside.specs.Beside.{is_same_credit, is_same_period, is_same_row}
+use Rattle.hh_states.specs.Beside.{is_same_credit, is_same_period, is_same_row}
 use Rattle.hh_beside.specs.DayLaws.{TellsCredits, TellsPeriods, TellsRows}
 
 -- the test of equal accounts holds exactly for equal ones

@@ -27,7 +27,7 @@ use Rattle.hh_rules.specs.declared.positions.Position.{Position}
 use Rattle.hh_rules.specs.declared.positions.Position.TheVariants.{Known, Lost}
 use Rattle.hh_rules.specs.declared.positions.PositionKey.{PositionKey}
 use Rattle.hh_states.specs.PeriodSettlement.{row_in_force}
-use Rattle.hh_beside.specs.Beside.{are_positions_right, has_positions, is_right, net_position}
+use Rattle.hh_states.specs.Beside.{are_positions_right, has_positions, is_right, net_position}
 use Rattle.hh_beside.proofs.PositionKeys.{exact_position_keys, position_key_total}
 use Rattle.hh_beside.proofs.PositionNets.{net_is_rows, part_of_row, row_by}
 use Rattle.hh_beside.proofs.PositionTables.{AreOf, Has, IsOf, part_is, some_stays}

@@ -32,7 +32,7 @@ use Rattle.hh_rules.proofs.HistoryLaws.{looks_back}
 use Rattle.hh_states.specs.Steps.{rows_coming, timetable_at}
 use Rattle.hh_state_laws.proofs.ConsistentLaws.{none_met, reached_consistent}
 use Rattle.hh_state_laws.proofs.PutLaws.{keys-put}
-use Rattle.hh_beside.specs.Beside.{net_position}
+use Rattle.hh_states.specs.Beside.{net_position}
 use Rattle.hh_beside.specs.Keeping.{positions_with, replaced_by}
 use Rattle.hh_beside.specs.PositionLaws.{KnownIsNet, LoadsKeepPositions, RunsKeepPositions}
 use Rattle.hh_beside.proofs.PositionLists.{AreRight, HasBoth, are_right, right_are}

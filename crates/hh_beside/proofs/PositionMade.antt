@@ -15,7 +15,7 @@ use Rattle.hh_rules.specs.Positions.{position_key, position_key_cmp, with_replac
 use Rattle.hh_rules.specs.declared.positions.Position.{Position}
 use Rattle.hh_rules.specs.declared.positions.PositionKey.{PositionKey}
 use Rattle.hh_states.specs.PeriodSettlement.{row_in_force}
-use Rattle.hh_beside.specs.Beside.{has_positions, net_position}
+use Rattle.hh_states.specs.Beside.{has_positions, net_position}
 use Rattle.hh_beside.specs.Keeping.{positions_by, positions_of}
 use Rattle.hh_beside.specs.PositionLaws.{MadeAnewAreRight, MadeAnewAreWritten}
 use Rattle.hh_beside.proofs.PositionKeys.{exact_position_keys, position_key_total}

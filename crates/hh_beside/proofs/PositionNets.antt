@@ -28,7 +28,7 @@ use Rattle.hh_states.specs.PeriodSettlement.{row_in_force}
 use Rattle.hh_state_laws.proofs.EffectiveLaws.{fixed_by_row}
 use Rattle.hh_state_laws.proofs.PutLaws.{keys-put_in_time, stays-put_new}
 use Rattle.hh_calc.specs.Formulas.{net_kwh_of}
-use Rattle.hh_beside.specs.Beside.{net_position}
+use Rattle.hh_states.specs.Beside.{net_position}
 use Rattle.hh_beside.specs.Keeping.{replaced_by}
 use Rattle.hh_beside.proofs.PositionTables.{less_nothing, part, part-minus, some_stays}
 

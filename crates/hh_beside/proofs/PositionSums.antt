@@ -38,7 +38,7 @@ use Rattle.hh_states.specs.Soundness.{AreConsistent, HasCounterparties, IsPartyE
 use Rattle.hh_state_laws.proofs.ConsistentLaws.{reached_consistent}
 use Rattle.hh_state_laws.proofs.ReadyLaws.{account_there, parties_rise}
 use Rattle.hh_calc.specs.Formulas.{net_kwh_of}
-use Rattle.hh_beside.specs.Beside.{net_position}
+use Rattle.hh_states.specs.Beside.{net_position}
 use Rattle.hh_beside.specs.PositionLaws.{KnownAreNets, PositionsSumToZero, are_known, is_known, position_key_at, volume_in, net_volumes_at}
 use Rattle.hh_beside.proofs.PositionLists.{right_are}
 use Rattle.hh_beside.proofs.PositionNets.{row_by}

@@ -17,7 +17,7 @@ use Rattle.hh_states.specs.PeriodSettlement.{accounts_on, price_of, reading_of, 
 use Rattle.hh_states.specs.Runs.{periods_of, seen_by}
 use Rattle.hh_states.specs.States.{State}
 use Rattle.hh_states.specs.Steps.{CanLoad, CanRun, IsReached, Load, after_load, after_run, registered_at, timetable_at}
-use Rattle.hh_beside.specs.Beside.{are_days_accounted_for, is_among, is_same_credit, is_same_period, is_same_row, latest_on, period_of_run, terms_for}
+use Rattle.hh_states.specs.Beside.{are_days_accounted_for, is_among, is_same_credit, is_same_period, is_same_row, latest_on, period_of_run, terms_for}
 use Rattle.hh_beside.specs.Keeping.{periods_of_runs, touched_by}
 
 -- the tests of equal rows, credits and settled periods hold exactly for equal ones

@@ -19,7 +19,7 @@ use Rattle.hh_states.specs.Changes.{LoadChangeView, RunChangeView}
 use Rattle.hh_states.specs.Content.{Content}
 use Rattle.hh_states.specs.DaySettlement.{periods_on}
 use Rattle.hh_states.specs.PeriodSettlement.{row_in_force}
-use Rattle.hh_beside.specs.Beside.{Beside}
+use Rattle.hh_states.specs.Beside.{Beside}
 
 -- the Settlement Period that a row in time touches, if it touches one; registrations touch none
 abbrev pub touched_by : Row → Option SettlementPeriod

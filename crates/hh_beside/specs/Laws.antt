@@ -6,7 +6,7 @@ use Rattle.hh_states.specs.Changes.{load_change, run_change}
 use Rattle.hh_states.specs.Content.{Content, tables_of}
 use Rattle.hh_states.specs.States.{State}
 use Rattle.hh_states.specs.Steps.{CanLoad, CanRun, IsReached, Load, after_load, after_run}
-use Rattle.hh_beside.specs.Beside.{Beside, agrees}
+use Rattle.hh_states.specs.Beside.{Beside, agrees}
 use Rattle.hh_beside.specs.DayLaws.{HaveTheSame}
 use Rattle.hh_beside.specs.Keeping.{beside_of, beside_with_load, beside_with_run}
 

@@ -1,4 +1,3 @@
-pub mod Beside
 pub mod DayLaws
 pub mod Keeping
 pub mod Laws

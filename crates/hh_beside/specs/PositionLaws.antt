@@ -27,7 +27,7 @@ use Rattle.hh_states.specs.PeriodSettlement.{accounts_on}
 use Rattle.hh_states.specs.Soundness.{AreConsistent}
 use Rattle.hh_states.specs.States.{State}
 use Rattle.hh_states.specs.Steps.{CanLoad, IsReached, Load, after_load, after_run}
-use Rattle.hh_beside.specs.Beside.{are_positions_right, net_position}
+use Rattle.hh_states.specs.Beside.{are_positions_right, net_position}
 use Rattle.hh_beside.specs.Keeping.{positions_by, positions_of, positions_with, replaced_by}
 
 -- a known position is the sum of the contracts in force; an account without one counts as 0

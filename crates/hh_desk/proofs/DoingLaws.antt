@@ -14,14 +14,13 @@ use Rattle.hh_states.specs.Content.{tables_of}
 use Rattle.hh_states.specs.States.{State, file_key_cmp}
 use Rattle.hh_office.specs.Machine.{key_of, load_beside, may, step}
 use Rattle.hh_office.specs.Transitions.{Transition, refused_for}
-use Rattle.hh_office.specs.Promises.{HandleStep, Represents, RepresentsAfter, is_given_up}
-use Rattle.hh_office.specs.Refusals.{CountsReply, RepresentsSome}
+use Rattle.hh_office.specs.Promises.{HandleStep, Represents, RepresentsAfter, RepresentsNow, is_given_up}
+use Rattle.hh_office.specs.Refusals.{CountsMore, CountsReply, RepresentsSome}
 use Rattle.hh_office.specs.Views.{OfficeView, midnight_of}
 use Rattle.hh_host.specs.Views.{HostView}
 use Rattle.hh_script.specs.Steps.{LoadStep, RunStep}
 use Rattle.hh_desk.specs.declared.told.Told.TheVariants.{Replied}
-use Rattle.hh_desk.specs.Doing.{LoadDoes, OrdersRun, RunDoes, RunsLoad, RepresentsNow, request_for, request_of}
-use Rattle.hh_desk.specs.GivingUp.{CountsMore}
+use Rattle.hh_desk.specs.Doing.{LoadDoes, OrdersRun, RunDoes, RunsLoad, request_for, request_of}
 use Rattle.hh_desk.proofs.GivingUpLaws.{reply_where}
 
 -- A load asks the same of the machine if only the beginning of its file is read, as long as a file that is too large is noticed.

@@ -8,9 +8,8 @@ use Rattle.hh_requests.specs.declared.request.Request.{Request}
 use Rattle.hh_states.specs.States.{State}
 use Rattle.hh_office.specs.Machine.{next}
 use Rattle.hh_office.specs.Promises.{Represents, is_given_up}
-use Rattle.hh_office.specs.Refusals.{RepresentsSome}
+use Rattle.hh_office.specs.Refusals.{CountsMore, RepresentsSome}
 use Rattle.hh_office.specs.Views.{OfficeView, midnight_of}
-use Rattle.hh_wire.specs.declared.incoming.Incoming.TheVariants.{Asked}
 use Rattle.hh_http_serve.specs.declared.serve.ServeFault.{ServeFault}
 use Rattle.hh_http_serve.specs.declared.serve.ServeFault.TheVariants.{Memory, Read, Write}
 use Rattle.hh_http_serve.specs.declared.serve.Served.{Served}
@@ -18,8 +17,8 @@ use Rattle.hh_http_serve.specs.declared.serve.Served.TheVariants as outcome
 use Rattle.hh_http_serve.specs.Serves.{Answer, CountsReading, CountsWriting, IsAnswer, IsReadOf, Serves, RepresentsAfterOne}
 use Rattle.hh_sockets.specs.Arrivals.{Arrival, Exchange}
 use Rattle.hh_host.specs.Clocks.{ClockReading}
+use Rattle.hh_http_serve.specs.incoming.Incoming.TheVariants.{Asked}
 use Rattle.hh_desk.specs.steps.Serving.{ServesNext}
-use Rattle.hh_desk.specs.GivingUp.{CountsMore}
 use Rattle.hh_desk.specs.Serving.{AreServed, LeadsTo, ServesAll, ServesEach}
 use Rattle.hh_desk.proofs.GivingUpLaws.{more_at_first, more_later}
 use Rattle.hh_desk.proofs.ServedLaws.{served_more, served_then}

@@ -8,7 +8,7 @@ use Rattle.hh_requests.specs.declared.reply.Reply.TheVariants as reply
 use Rattle.hh_states.specs.States.{State}
 use Rattle.hh_office.specs.Machine.{step}
 use Rattle.hh_office.specs.Transitions.{Transition}
-use Rattle.hh_office.specs.Promises.{Represents, is_refused}
+use Rattle.hh_office.specs.Promises.{Represents, RepresentsNow, is_refused}
 use Rattle.hh_office.specs.Views.{OfficeView, midnight_of}
 use Rattle.hh_host.specs.Views.{HostView}
 use Rattle.hh_script.specs.Steps.{LoadStep, RunStep}
@@ -51,10 +51,6 @@ RunDoes fails midnight s run Unreadable t = ⊥
 RunDoes fails midnight s run (Replied given) t =
     (let transition : Transition = step midnight s run.moment (request_for run) in (given ≡ transition.reply) × (t ≡ transition.state))
     ⊎ (IsGivenUpWhere fails given × (t ≡ s))
-
--- the office represents a state now, in the same zone as before
-abbrev pub RepresentsNow : OfficeView → OfficeView → State → Type 0
-RepresentsNow old new t = Represents new t × (new.zone ≡ old.zone)
 
 -- a request was refused
 abbrev pub IsRefusal : Told → Type 0

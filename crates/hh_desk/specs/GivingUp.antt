@@ -1,20 +1,10 @@
 -- What is given up at the desk, and why: memory was refused, or the store refused.
-use Rattle.std.specs.Prelude.{◌≡◌, ◌⊎◌, ◌<◌, ℕ}
-use Rattle.hh_devices.specs.Devices.{most_failures}
+use Rattle.std.specs.Prelude.{◌≡◌, ◌⊎◌}
 use Rattle.hh_names.specs.declared.fault.Fault.{Fault}
 use Rattle.hh_names.specs.declared.fault.Refusal.TheVariants.{Store}
 use Rattle.hh_names.specs.Faults.{memory_fault, plain_fault}
 use Rattle.hh_requests.specs.declared.reply.Reply.{Reply}
 use Rattle.hh_requests.specs.declared.reply.Reply.TheVariants as reply
-use Rattle.hh_office.specs.Views.{Kept}
-
--- a count rose; if it was at its greatest value, this says nothing
-abbrev pub CountsMore : ℕ → ℕ → Type 0
-CountsMore old new = old < most_failures → old < new
-
--- the store of an office counts more refusals than before
-abbrev pub HasRefused : {T : Type 0} → (T → ℕ) → Kept T → Kept T → Type 0
-HasRefused refusals old new = CountsMore (refusals old.tables) (refusals new.tables)
 
 -- The store may have failed only if `fails` holds.
 module _ (fails : Type 0) where

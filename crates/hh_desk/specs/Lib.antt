@@ -1,6 +1,15 @@
 pub mod Crashes
 pub mod Doing
+pub mod ErrandCrashes
+pub mod Errands
 pub mod GivingUp
 pub mod Lines
 pub mod Serving
 pub mod steps
+pub use Rattle.hh_office.specs.Refusals
+pub use Rattle.hh_office.specs.Views
+pub use Rattle.hh_office.specs.Promises
+pub use Rattle.hh_office.specs.Headline
+pub use Rattle.hh_office.specs.Reports
+pub use Rattle.hh_office.specs.declared.report
+pub use Rattle.hh_office.specs.Machine

@@ -1,19 +1,16 @@
 //! Connections that are served.
 
 ghost use Rattle.hh_office.specs.Views.{IsSure};
-ghost use Rattle.hh_http_serve.specs.Serves.{CountsUp};
-ghost use Rattle.hh_desk.specs.GivingUp.{HasRefused};
 ghost use Rattle.hh_desk.specs.Serving.{ServesEach};
 ghost use Rattle.hh_sockets.specs.Arrivals.{exchange};
+ghost use Rattle.hh_office.specs.Refusals.{CountsUp, HasRefused};
 ghost use Rattle.hh_desk.specs.steps.Serving.{ServesNext, ServesNow};
 
 use hh_devices::{Sink, Source};
 use hh_host::Clock;
-use hh_http_serve::{ServeFault, Served, serve_one};
-use hh_office::Office;
+use hh_http_serve::{Routes, ServeFault, Served, serve_one};
+use hh_office::{Office, Tables};
 use hh_sockets::{Connection, Listener, Received};
-use hh_store::Tables;
-use hh_wire::Routes;
 use std::alloc::Global;
 
 /// Awaits `count` connections of a listener, one after the other. Each connection that comes is served

@@ -14,6 +14,7 @@ use Rattle.hh_office.specs.Machine.{next, step}
 use Rattle.hh_office.specs.PartyViews.{ForbidsOthers, ShowsByView}
 use Rattle.hh_office.specs.Promises.{ConservesAfter, HandleStep, RefusalLeaves, RepeatsOnce, Represents, RepresentsAfter, is_given_up}
 use Rattle.hh_office.specs.Refusals.{CountsReply, RepresentsSome, is_of_store}
+use Rattle.hh_office.specs.StoreFaults.{CountsOneMore}
 use Rattle.hh_office.specs.Transitions.{Transition}
 use Rattle.hh_office.specs.Views.{Kept, OfficeView, midnight_of}
 use Rattle.hh_http_replies.specs.ReplyText.{reply_text}
@@ -21,7 +22,6 @@ use Rattle.hh_http_replies.specs.declared.refusal.Refused.{Refused}
 use Rattle.hh_http_replies.specs.declared.reply.WriteFault.{WriteFault}
 use Rattle.hh_http_replies.specs.declared.reply.WriteFault.TheVariants as write
 use Rattle.hh_http_replies.specs.Writes.{WritesRefusal, WritesReply}
-use Rattle.hh_store.specs.StoreFaults.{CountsOneMore}
 use Rattle.hh_wire.specs.declared.incoming.Incoming.{Incoming}
 use Rattle.hh_wire.specs.declared.incoming.Incoming.TheVariants.{Asked}
 use Rattle.hh_http_serve.specs.declared.serve.ServeFault.{ServeFault}

@@ -1,5 +1,5 @@
 -- What comes of serving a connection: a request is read, the office handles it, and one reply is written.
-use Rattle.std.specs.Prelude.{◌≡◌, ◌≢◌, ◌≤◌, ◌⊎◌, ℕ, ℤ, List, false, Option, IfSome, Result, Ok, Err}
+use Rattle.std.specs.Prelude.{◌≡◌, ◌≢◌, ◌⊎◌, ℕ, ℤ, List, false, Option, IfSome, Result, Ok, Err}
 use Rattle.std.specs.Io.KnownBytes.{Appends, Keeps}
 use Rattle.hh_devices.specs.DeviceChanges.{DeviceChange, HasFailed, IsWell}
 use Rattle.hh_devices.specs.Devices.{AppendsFront, Failed}
@@ -13,7 +13,7 @@ use Rattle.hh_office.specs.Machine.{next}
 use Rattle.hh_office.specs.PartyViews.{ForbidsOthers, ShowsByView}
 use Rattle.hh_office.specs.Promises.{ConservesAfter, HandleStep, RefusalLeaves, RepeatsOnce, Represents, RepresentsAfter}
 use Rattle.hh_office.specs.Refusals.{CountsReply, RepresentsSome}
-use Rattle.hh_office.specs.Views.{Kept, OfficeView, midnight_of}
+use Rattle.hh_office.specs.Views.{OfficeView, midnight_of}
 use Rattle.hh_http_replies.specs.declared.refusal.Refused.{Refused}
 use Rattle.hh_http_replies.specs.ReplyText.{RepliesRefused, reply_text}
 use Rattle.hh_wire.specs.declared.incoming.Incoming.{Incoming}
@@ -77,11 +77,6 @@ abbrev pub RepresentsAfterOne : OfficeView → OfficeView → ℤ → Type 0
 RepresentsAfterOne old new moment =
     (s : State) → Represents old s
     → (new.zone ≡ old.zone) × (Represents new s ⊎ ((request : Request) × Represents new (next (midnight_of old) s moment request)))
-
--- the store of an office counts no fewer refusals after a call than before it, if the office represented some state that the machine
--- reaches
-abbrev pub CountsUp : {T : Type 0} → (T → ℕ) → Kept T → Kept T → Type 0
-CountsUp refusals old new = RepresentsSome old.seen → refusals old.tables ≤ refusals new.tables
 
 -- a source counts one failure if a call answers that a read failed, and otherwise none
 abbrev pub CountsReading : Result Served ServeFault → ℕ → ℕ → Type 0

@@ -3,4 +3,5 @@
 
 mod serve;
 
+pub use hh_wire::Routes;
 pub use serve::{ServeFault, Served, serve_one};

@@ -1,14 +1,14 @@
 //! Serving connections: a request is read, the office handles it, and one reply is written.
 
 ghost use Rattle.hh_devices.specs.DeviceChanges.{change};
+ghost use Rattle.hh_office.specs.Refusals.{CountsUp};
 ghost use Rattle.hh_office.specs.Views.{IsSure};
 ghost use Rattle.hh_http_serve.specs.Crashes.{LeavesServed};
-ghost use Rattle.hh_http_serve.specs.Serves.{CountsReading, CountsUp, CountsWriting, Serves, ServingFailsAwaiting, RepresentsAfterOne};
+ghost use Rattle.hh_http_serve.specs.Serves.{CountsReading, CountsWriting, Serves, ServingFailsAwaiting, RepresentsAfterOne};
 
 use hh_devices::{DeviceFailed, Sink, Source};
 use hh_http_replies::{WriteFault, write_refused, write_reply};
-use hh_office::Office;
-use hh_store::Tables;
+use hh_office::{Office, Tables};
 use hh_wire::{Incoming, Routes, WireFault, read_request};
 use std::alloc::Global;
 

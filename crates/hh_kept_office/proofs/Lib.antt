@@ -1,5 +1,7 @@
 pub mod AnyLaws
 mod CrashLaws
 mod KeptLaws
+mod OverLaws
 mod PathLaws
+mod RunningLaws
 mod ScriptLaws

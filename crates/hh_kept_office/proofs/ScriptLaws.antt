@@ -7,20 +7,20 @@ use Rattle.hh_devices.specs.DeviceChanges.{DeviceChange}
 use Rattle.hh_time.specs.Zone.{midnight_in}
 use Rattle.hh_states.specs.Content.{Content}
 use Rattle.hh_keyed_rows.specs.Values.{version}
-use Rattle.hh_sqlstore.specs.Leaving.{IsTakenOver}
-use Rattle.hh_sqlstore.specs.Holds.{Holds}
 use Rattle.hh_host.specs.Views.{HostView}
 use Rattle.hh_script.specs.Steps.{Step}
+use Rattle.hh_session.proofs.GivingUpLaws.{script_then}
 use Rattle.hh_session.specs.Course.{AllDone, AllDoneButLast, LastNotDone, cut_after}
+use Rattle.hh_sqlstore.specs.Holds.{Holds}
+use Rattle.hh_sqlstore.specs.Leaving.{IsTakenOver}
+use Rattle.hh_kept_office.specs.declared.stop.DatabaseStop.{DatabaseStop}
+use Rattle.hh_kept_office.specs.declared.stop.DatabaseStop.TheVariants as database
+use Rattle.hh_kept_office.specs.Running.{CutsOver, EarlyOver, IfEarly, WereRefused, WritesOver}
+use Rattle.hh_session.specs.Script.{IsScript}
 use Rattle.hh_session.specs.declared.run.LinesStop.{LinesStop}
 use Rattle.hh_session.specs.declared.run.LinesStop.TheVariants.{Line, Output}
 use Rattle.hh_session.specs.declared.script.ScriptStop.{ScriptStop}
 use Rattle.hh_session.specs.declared.script.ScriptStop.TheVariants as script
-use Rattle.hh_session.specs.Script.{IsScript}
-use Rattle.hh_session.proofs.GivingUpLaws.{script_then}
-use Rattle.hh_database.specs.declared.stop.DatabaseStop.{DatabaseStop}
-use Rattle.hh_database.specs.declared.stop.DatabaseStop.TheVariants as database
-use Rattle.hh_database.specs.Running.{CutsOver, EarlyOver, IfEarly, WereRefused, WritesOver}
 use Rattle.hh_kept_office.specs.Places.{Connected, LeavesConnected, TakesConnected}
 use Rattle.hh_kept_office.specs.Scripts.{RunsFile}
 use Rattle.hh_kept_office.specs.steps.Scripts.{RunsFileOver, stop_of}

@@ -2,8 +2,8 @@
 //! is.
 
 use crate::place::DatabaseHost;
+use hh_desk::Office;
 use hh_names::FileName;
-use hh_office::Office;
 use hh_rows::{FileKind, LeadMinutes};
 use hh_sqlstore::{Rising, SqlTables};
 use hh_store::Tables;

@@ -6,14 +6,14 @@ ghost use Rattle.sqlite.specs.Held.{state};
 ghost use Rattle.hh_devices.specs.Devices.{AppendsFront, Failed};
 ghost use Rattle.hh_names.specs.declared.fault.Refusal.TheVariants.{Store};
 ghost use Rattle.hh_names.specs.Faults.{plain_fault};
-ghost use Rattle.hh_sqlrows.specs.Making.{nothing};
 ghost use Rattle.hh_sqlstore.specs.Holds.{IsNewOffice};
 ghost use Rattle.hh_sqlstore.specs.Leaving.{LeavesDatabase};
 ghost use Rattle.hh_sqlstore.specs.Making.{MayMake};
+ghost use Rattle.hh_sqlstore.specs.OfficeSchema.{nothing};
 ghost use Rattle.hh_kept_office.specs.Kept.{ready_line};
 
+use hh_desk::ErrandStop;
 use hh_devices::{Sink, write_whole};
-use hh_errands::ErrandStop;
 use hh_names::Fault;
 use hh_rows::Settings;
 use hh_sqlstore::SqlTables;

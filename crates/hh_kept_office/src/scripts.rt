@@ -3,14 +3,15 @@
 ghost use Rattle.std.specs.Prelude.{◌≡◌, IfErr, IsTrue, OnOk};
 ghost use Rattle.sqlite.specs.Held.{state};
 ghost use Rattle.hh_devices.specs.DeviceChanges.{change};
-ghost use Rattle.hh_sqlstore.specs.Stores.{content_in};
 ghost use Rattle.hh_session.specs.ScriptStops.{IsUnrun};
+ghost use Rattle.hh_sqlstore.specs.Stores.{content_in};
 ghost use Rattle.hh_kept_office.specs.Places.{connected, places_of, shown_by};
 ghost use Rattle.hh_kept_office.specs.Scripts.{EndsScript, IsUnrunAt, RunsFile};
 ghost use Rattle.hh_kept_office.specs.steps.Scripts.{RunsFileOver, stop_of};
 
 use crate::place::DatabaseHost;
-use hh_database::{DatabaseStop, run_over_database};
+use crate::running::run_over_database;
+use crate::stop::DatabaseStop;
 use hh_devices::Sink;
 use hh_host::Host;
 use hh_names::Fault;

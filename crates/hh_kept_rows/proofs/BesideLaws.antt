@@ -24,7 +24,7 @@ use Rattle.hh_states.specs.Runs.{run_key_cmp}
 use Rattle.hh_store.specs.declared.day_data.PeriodState.{PeriodState}
 use Rattle.hh_store.specs.declared.day_data.PeriodState.TheVariants.{Changed, Same}
 use Rattle.hh_store.specs.DayReads.{ArePeriodsOf, IsNetted, IsPeriodOf, IsStateOf}
-use Rattle.hh_beside.specs.Beside.{Beside, agrees, are_positions_right, credit_row, is_credit_of, is_result_of, latest_on, period_of_run}
+use Rattle.hh_states.specs.Beside.{Beside, agrees, are_positions_right, credit_row, is_credit_of, is_result_of, latest_on, period_of_run}
 use Rattle.hh_beside.specs.PositionLaws.{are_known, is_known, position_key_at, volume_in, net_volumes_at}
 use Rattle.hh_beside.proofs.DayAccountedFor.{untouched_is_settled}
 use Rattle.hh_beside.proofs.PositionLoads.{known_is_net}

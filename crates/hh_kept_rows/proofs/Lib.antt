@@ -10,3 +10,5 @@ mod RunRangeLaws
 mod SameLaws
 mod SoundLaws
 mod UntilLaws
+pub use Rattle.hh_beside.proofs.PositionKeys
+pub use Rattle.hh_beside.proofs.PositionParts

@@ -6,7 +6,7 @@ use Rattle.std.proofs.lemmas.Bool.{or_right}
 use Rattle.std.proofs.lemmas.List.{map-append, take_more}
 use Rattle.hh_rows.specs.Keys.{settlement_period_cmp}
 use Rattle.hh_rows.specs.declared.settlement_period.SettlementPeriod.{SettlementPeriod}
-use Rattle.hh_beside.specs.Beside.{is_among}
+use Rattle.hh_states.specs.Beside.{is_among}
 
 module _ (at : SettlementPeriod) where
   among-append : (ps qs : List SettlementPeriod) → is_among (ps ++ qs) at ≡ (is_among ps at || is_among qs at)

@@ -17,7 +17,7 @@ use Rattle.hh_states.specs.Content.{Content}
 use Rattle.hh_states.specs.DaySettlement.{missing_meter, missing_price}
 use Rattle.hh_states.specs.PeriodSettlement.{accounts_on, terms_at}
 use Rattle.hh_states.specs.Runs.{run_key_cmp}
-use Rattle.hh_beside.specs.Beside.{Beside, agrees, credit_row, is_among, is_credit_of, is_result_of, latest_on}
+use Rattle.hh_states.specs.Beside.{Beside, agrees, credit_row, is_among, is_credit_of, is_result_of, latest_on}
 use Rattle.hh_beside.specs.PositionLaws.{are_known, net_volumes_at}
 use Rattle.hh_store.specs.declared.day_data.DayData.{DayData}
 use Rattle.hh_store.specs.declared.day_data.PeriodState.{PeriodState}

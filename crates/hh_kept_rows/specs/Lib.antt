@@ -3,3 +3,7 @@ pub mod DayRows
 pub mod Parts
 pub mod Reports
 pub mod steps
+pub use Rattle.hh_beside.specs.Keeping
+pub use Rattle.hh_beside.specs.Laws
+pub use Rattle.hh_beside.specs.DayLaws
+pub use Rattle.hh_beside.specs.PositionLaws

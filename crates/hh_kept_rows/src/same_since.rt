@@ -7,7 +7,7 @@ ghost use Rattle.hh_states.specs.Content.{credit_key_cmp, result_key_cmp};
 ghost use Rattle.hh_states.specs.PeriodSettlement.{accounts_on};
 ghost use Rattle.hh_states.specs.Runs.{run_key_cmp};
 ghost use Rattle.hh_tables.specs.Tables.{IsTable};
-ghost use Rattle.hh_beside.specs.Beside.{credit_row, is_among, is_credit_of, is_result_of};
+ghost use Rattle.hh_states.specs.Beside.{credit_row, is_among, is_credit_of, is_result_of};
 ghost use Rattle.hh_kept_rows.specs.DayBeside.{IsSameAs};
 
 use crate::day_beside::DayBeside;

@@ -2,8 +2,8 @@
 use Rattle.std.proofs.Common.{◌≡◌, ℤ, pos, negsuc, zero, suc, Bool, true, false, Some, refl, ap}
 use Rattle.hh_num.specs.Quantities.{Measure, amounts_of_cash, energies, multipliers, net_volumes, percentages, volumes}
 use Rattle.hh_names.specs.Words.{is_capital_or_digit, is_file_name_byte, is_letter_or_digit, is_reference_byte, is_unit_byte}
-use Rattle.hh_rules.specs.declared.positions.Position.{Position}
-use Rattle.hh_rules.specs.declared.positions.Position.TheVariants.{Known, Lost}
+use Rattle.hh_store.specs.positions.Position.{Position}
+use Rattle.hh_store.specs.positions.Position.TheVariants.{Known, Lost}
 use Rattle.sqlite_value.specs.Order.{Row}
 use Rattle.hh_keyed_rows.specs.declared.no_columns.NoColumns.{NoColumns}
 use Rattle.hh_keyed_rows.specs.Codecs.{IsCodec}

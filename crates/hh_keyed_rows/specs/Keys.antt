@@ -2,12 +2,12 @@
 use Rattle.hh_rows.specs.declared.keys.ContractKey.{ContractKey}
 use Rattle.hh_rows.specs.declared.keys.ReallocationKey.{ReallocationKey}
 use Rattle.hh_rows.specs.declared.keys.UnitPeriod.{UnitPeriod}
-use Rattle.hh_rules.specs.declared.positions.PositionKey.{PositionKey}
+use Rattle.hh_store.specs.positions.PositionKey.{PositionKey}
 use Rattle.hh_runs.specs.declared.run_key.RunKey.{RunKey}
-use Rattle.hh_states.specs.declared.file_key.FileKey.{FileKey}
-use Rattle.hh_states.specs.declared.run_keys.CreditKey.{CreditKey}
-use Rattle.hh_states.specs.declared.run_keys.PostingKey.{PostingKey}
-use Rattle.hh_states.specs.declared.run_keys.ResultKey.{ResultKey}
+use Rattle.hh_store.specs.file_key.FileKey.{FileKey}
+use Rattle.hh_store.specs.run_keys.CreditKey.{CreditKey}
+use Rattle.hh_store.specs.run_keys.PostingKey.{PostingKey}
+use Rattle.hh_store.specs.run_keys.ResultKey.{ResultKey}
 use Rattle.hh_keyed_rows.specs.declared.one_row.OneRow.{OneRow}
 use Rattle.hh_keyed_rows.specs.Codecs.{Codec, both, via}
 use Rattle.hh_keyed_rows.specs.Fields.{account_columns, date_column, file_kind_column, file_name_column, only_number, period_column, reference_column, run_kind_column, settlement_period_columns, unit_column}

@@ -7,11 +7,11 @@ use Rattle.hh_names.specs.declared.values.Reallocation.{Reallocation}
 use Rattle.hh_rows.specs.declared.rows.PartyRegistration.{PartyRegistration}
 use Rattle.hh_rows.specs.declared.rows.UnitRegistration.{UnitRegistration}
 use Rattle.hh_rows.specs.declared.settings.Settings.{Settings}
-use Rattle.hh_rules.specs.declared.positions.Position.{Position}
-use Rattle.hh_rules.specs.declared.positions.Position.TheVariants.{Known, Lost}
-use Rattle.hh_calc.specs.declared.result.AccountRow.{AccountRow}
+use Rattle.hh_store.specs.positions.Position.{Position}
+use Rattle.hh_store.specs.positions.Position.TheVariants.{Known, Lost}
+use Rattle.hh_store.specs.result.AccountRow.{AccountRow}
 use Rattle.hh_runs.specs.declared.summary.Summary.{Summary}
-use Rattle.hh_states.specs.States.{KeptFileView}
+use Rattle.hh_store.specs.States.{KeptFileView}
 use Rattle.hh_keyed_rows.specs.declared.amounts.AccountAmounts.{AccountAmounts}
 use Rattle.hh_keyed_rows.specs.declared.no_columns.NoColumns.{NoColumns}
 use Rattle.hh_keyed_rows.specs.Codecs.{Codec, blob_column, both, coded, via}

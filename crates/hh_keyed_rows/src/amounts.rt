@@ -3,9 +3,9 @@
 ghost use Rattle.std.specs.Prelude.{◌≡◌};
 ghost use Rattle.hh_keyed_rows.specs.Values.{amounts_of, account_row_of};
 
-use hh_calc::AccountRow;
 use hh_names::Account;
 use hh_num::{Pence, Ticks};
+use hh_store::AccountRow;
 
 /// What an account has, pays and bears in a Settlement Period of a run. The account itself is in the key.
 /// Energy is in ticks, cash in pence.

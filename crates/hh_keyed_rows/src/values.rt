@@ -10,9 +10,8 @@ use crate::row_fault::RowFault;
 use hh_names::{AccessKey, Account, OperatorKey, Reading, Reallocation};
 use hh_num::{Kwh, NetKwh, Pence, Percent, Ticks, Tlm};
 use hh_rows::{DateRange, LeadMinutes, PartyRegistration, Settings, UnitRegistration};
-use hh_rules::Position;
 use hh_runs::Summary;
-use hh_store::KeptFile;
+use hh_store::{KeptFile, Position};
 use sqlite::types::ValueRef;
 use std::alloc::AllocError;
 

@@ -6,6 +6,7 @@ use Rattle.hh_requests.specs.declared.request.Request.{Request}
 use Rattle.hh_requests.specs.declared.reply.Reply.{Reply}
 use Rattle.hh_states.specs.Content.{Content, tables_of}
 use Rattle.hh_states.specs.States.{State}
+pub use Rattle.hh_store.specs.Crashes.{AddsNothing}
 use Rattle.hh_office.specs.Machine.{Timed, next, state_after}
 use Rattle.hh_office.specs.Promises.{MakesTransition, Represents, UnlessFailed, is_given_up}
 use Rattle.hh_office.specs.Transitions.{Transition}

@@ -10,3 +10,5 @@ pub mod Runs
 pub mod Transitions
 pub mod Views
 pub mod steps
+pub use Rattle.hh_store.specs.StoreFaults
+pub use Rattle.hh_day.specs.Headline

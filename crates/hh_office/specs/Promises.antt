@@ -51,6 +51,10 @@ MakesTransition old new given transition = MatchBool (is_given_up given) (new �
 abbrev pub Represents : OfficeView → State → Type 0
 Represents office s = TablesRepresent (midnight_of office) office.content s
 
+-- the office represents a state now, in the same zone as before
+abbrev pub RepresentsNow : OfficeView → OfficeView → State → Type 0
+RepresentsNow old new t = Represents new t × (new.zone ≡ old.zone)
+
 -- the office does with a request what the machine does with it, in each state that the office represents
 abbrev pub HandleStep : OfficeView → OfficeView → ℤ → Request → Reply → Type 0
 HandleStep old new moment request given =

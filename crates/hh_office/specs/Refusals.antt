@@ -10,7 +10,7 @@ use Rattle.hh_requests.specs.declared.reply.Reply.TheVariants as reply
 use Rattle.hh_store.specs.StoreFaults.{CountsOneMore}
 use Rattle.hh_states.specs.States.{State}
 use Rattle.hh_office.specs.Promises.{Represents}
-use Rattle.hh_office.specs.Views.{OfficeView}
+use Rattle.hh_office.specs.Views.{Kept, OfficeView}
 use Rattle.hh_office.specs.declared.report.ReportStop.{ReportStop}
 use Rattle.hh_office.specs.declared.report.ReportStop.TheVariants as stop
 
@@ -26,6 +26,19 @@ IsElsewhere fault = is_of_store fault.refusal ≡ false
 -- an office represents some state that the machine reaches
 abbrev pub RepresentsSome : OfficeView → Type 0
 RepresentsSome office = (s : State) × Represents office s
+
+-- the store of an office counts no fewer refusals after a call than before it, if the office represented some state that the machine
+-- reaches
+abbrev pub CountsUp : {T : Type 0} → (T → ℕ) → Kept T → Kept T → Type 0
+CountsUp refusals old new = RepresentsSome old.seen → refusals old.tables ≤ refusals new.tables
+
+-- a count rose; if it was at its greatest value, this says nothing
+abbrev pub CountsMore : ℕ → ℕ → Type 0
+CountsMore old new = old < most_failures → old < new
+
+-- the store of an office counts more refusals than before
+abbrev pub HasRefused : {T : Type 0} → (T → ℕ) → Kept T → Kept T → Type 0
+HasRefused refusals old new = CountsMore (refusals old.tables) (refusals new.tables)
 
 -- the store counts one refusal if a fault is that of the store, and otherwise none
 abbrev pub CountsStoreFault : Fault → ℕ → ℕ → Type 0

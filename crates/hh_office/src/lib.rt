@@ -11,6 +11,8 @@ mod report_texts;
 mod reports;
 mod runs;
 
+pub use hh_day::reached_conserve;
+pub use hh_store::Tables;
 pub use office::Office;
 pub use report::ReportStop;
 pub use report_texts::kept_reports;

@@ -1,7 +1,7 @@
 -- The lines that ask for a report.
 use Rattle.std.specs.Prelude.{ℕ, List, [], ◌∷◌, Option, Some, None}
 use Rattle.hh_runs.specs.declared.run_key.RunKey.{RunKey}
-use Rattle.hh_requests.specs.declared.report.Report.{Report}
+use Rattle.hh_word_values.specs.report.Report.{Report}
 use Rattle.hh_word_values.specs.Reports.{form_value, run_key_value}
 use Rattle.hh_word_values.specs.Values.{shown_key_value}
 use Rattle.hh_script.specs.declared.report.ReportLine.{ReportLine}

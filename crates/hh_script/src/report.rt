@@ -5,8 +5,7 @@ ghost use Rattle.hh_script.specs.Reports.{asked_value, report_of, report_value};
 ghost use Rattle.hh_script.specs.Words.{words_of};
 
 use crate::words::{only_word, split_word};
-use hh_requests::Report;
-use hh_word_values::{read_report, read_run_key, read_shown_key};
+use hh_word_values::{Report, read_report, read_run_key, read_shown_key};
 
 /// `report KEY FORM [DATE KIND]`: a report to be written (profile).
 #[derive(Clone, Copy, Debug, PartialEq, Eq)]

@@ -10,17 +10,16 @@ use Rattle.jiff.specs.Words.{plain_zone}
 use Rattle.hh_time.specs.Days.{Midnights}
 use Rattle.hh_time.specs.Zone.{midnight_in}
 use Rattle.hh_states.specs.States.{State}
-use Rattle.hh_day.specs.Headline.{Conserves, ReachedConserve}
-use Rattle.hh_office.specs.Promises.{Represents}
-use Rattle.hh_office.specs.Refusals.{RepresentsSome}
-use Rattle.hh_office.specs.Views.{OfficeView, midnight_of}
+use Rattle.hh_desk.specs.Promises.{Represents, RepresentsNow}
+use Rattle.hh_desk.specs.Refusals.{CountsMore, RepresentsSome}
+use Rattle.hh_desk.specs.Views.{OfficeView, midnight_of}
 use Rattle.hh_host.specs.Views.{HostView}
+use Rattle.hh_desk.specs.Headline.{Conserves, ReachedConserve}
 use Rattle.hh_script.specs.declared.script_line.ScriptLine.{ScriptLine}
 use Rattle.hh_script.specs.Steps.{LoadStep, RunStep, Step, step_of}
 use Rattle.hh_desk.specs.declared.told.Told.{Told}
 use Rattle.hh_desk.specs.declared.told.Told.TheVariants.{Replied, Unreadable}
-use Rattle.hh_desk.specs.Doing.{IsRefusal, LeavesRefused, LoadDoes, RunDoes, RepresentsNow, no_memory}
-use Rattle.hh_desk.specs.GivingUp.{CountsMore}
+use Rattle.hh_desk.specs.Doing.{IsRefusal, LeavesRefused, LoadDoes, RunDoes, no_memory}
 use Rattle.hh_desk.proofs.GivingUpLaws.{more_at_first, more_later}
 use Rattle.hh_session.specs.declared.run.LinesStop.{LinesStop}
 use Rattle.hh_session.specs.declared.run.LinesStop.TheVariants.{Line, Output}

@@ -2,9 +2,9 @@
 use Rattle.std.proofs.Common.{ℕ, ◌≤◌, Bool, List, [], ◌∷◌, arith, Result, Ok, Err, inl, inr}
 use Rattle.hh_time.specs.Days.{Midnights}
 use Rattle.hh_states.specs.States.{State}
-use Rattle.hh_office.specs.declared.report.ReportStop.{ReportStop}
-use Rattle.hh_office.specs.declared.report.ReportStop.TheVariants.{Refused, Write}
-use Rattle.hh_office.specs.Refusals.{CountsReportStop}
+use Rattle.hh_desk.specs.report.ReportStop.{ReportStop}
+use Rattle.hh_desk.specs.report.ReportStop.TheVariants.{Refused, Write}
+use Rattle.hh_desk.specs.Refusals.{CountsReportStop}
 use Rattle.hh_host.specs.Views.{HostView}
 use Rattle.hh_script.specs.Steps.{LoadFile, MakeRun, Serve, Step, WriteReport}
 use Rattle.hh_desk.proofs.GivingUpLaws.{fault_then, fault_up, load_then, run_then}

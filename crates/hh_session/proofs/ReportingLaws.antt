@@ -11,18 +11,16 @@ use Rattle.hh_names.specs.Faults.{memory_fault, plain_fault}
 use Rattle.hh_requests.specs.declared.reply.Reply.TheVariants as reply
 use Rattle.hh_states.specs.States.{State}
 use Rattle.hh_store.specs.Reached.{AreReached}
-use Rattle.hh_office.specs.declared.report.ReportStop.TheVariants.{Refused, Write}
-use Rattle.hh_office.specs.Promises.{Represents, gives_up}
-use Rattle.hh_office.specs.Refusals.{CountsStoreFault, RepresentsSome}
-use Rattle.hh_office.specs.Reports.{ReportsAs}
-use Rattle.hh_office.specs.Views.{OfficeView, midnight_of}
+use Rattle.hh_desk.specs.report.ReportStop.TheVariants.{Refused, Write}
+use Rattle.hh_desk.specs.Promises.{Represents, RepresentsNow, gives_up}
+use Rattle.hh_desk.specs.Refusals.{CountsMore, CountsStoreFault, RepresentsSome}
+use Rattle.hh_desk.specs.Reports.{ReportsAs}
+use Rattle.hh_desk.specs.Views.{OfficeView, midnight_of}
 use Rattle.hh_host.specs.Views.{HostView}
 use Rattle.hh_script.specs.Reports.{ReportStep}
 use Rattle.hh_script.specs.Steps.{WriteReport}
 use Rattle.hh_desk.specs.declared.told.Told.TheVariants.{Replied}
-use Rattle.hh_desk.specs.Doing.{RepresentsNow}
 use Rattle.hh_session.specs.steps.Course.{BeginsLine, RunsStep, StopsStep, TellsLine}
-use Rattle.hh_desk.specs.GivingUp.{CountsMore}
 use Rattle.hh_session.specs.Lines.{refusal_line}
 use Rattle.hh_session.specs.Reporting.{GoesOut}
 use Rattle.hh_session.specs.steps.Reporting.{BeginsReport, RunsReport}

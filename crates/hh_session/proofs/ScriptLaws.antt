@@ -12,12 +12,12 @@ use Rattle.hh_rows.specs.declared.settings.Settings.{Settings}
 use Rattle.hh_states.specs.Content.{Content, tables_of}
 use Rattle.hh_states.specs.States.{State, empty_state}
 use Rattle.hh_states.specs.Steps.{IsReached, at_first}
-use Rattle.hh_day.specs.Headline.{Conserves, ReachedConserve}
-use Rattle.hh_office.specs.Views.{OfficeView, midnight_of}
+use Rattle.hh_desk.specs.Views.{OfficeView, midnight_of}
 use Rattle.hh_host.specs.Views.{HostView}
+use Rattle.hh_desk.specs.Headline.{Conserves, ReachedConserve}
+use Rattle.hh_desk.specs.Promises.{RepresentsNow}
+use Rattle.hh_desk.specs.Refusals.{CountsMore}
 use Rattle.hh_script.specs.Steps.{Step}
-use Rattle.hh_desk.specs.Doing.{RepresentsNow}
-use Rattle.hh_desk.specs.GivingUp.{CountsMore}
 use Rattle.hh_session.specs.declared.run.LinesStop.{LinesStop}
 use Rattle.hh_session.specs.declared.run.LinesStop.TheVariants.{Line, Output}
 use Rattle.hh_session.specs.Course.{AllDoneButLast, EndsEarly, LastNotDone, RunsScript, ScriptDoes, StopsScript, cut_after}

@@ -2,7 +2,7 @@
 use Rattle.std.proofs.Common.{ℕ, [], true, false, refl, inl, inr}
 use Rattle.hh_devices.specs.DeviceChanges.{DeviceChange}
 use Rattle.hh_devices.specs.Devices.{AppendsFront}
-use Rattle.hh_office.specs.Views.{OfficeView}
+use Rattle.hh_desk.specs.Views.{OfficeView}
 use Rattle.hh_sockets.specs.Ports.{IsPortFor}
 use Rattle.hh_host.specs.Views.{HostView}
 use Rattle.hh_script.specs.declared.serve.ServeLine.{ServeLine}

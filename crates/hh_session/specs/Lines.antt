@@ -4,7 +4,7 @@ use Rattle.hh_names.specs.declared.fault.Fault.{Fault}
 use Rattle.hh_names.specs.FaultText.{fault_text}
 use Rattle.hh_requests.specs.declared.reply.Reply.{Reply}
 use Rattle.hh_requests.specs.declared.reply.Reply.TheVariants as reply
-use Rattle.hh_office.specs.Promises.{is_refused}
+use Rattle.hh_desk.specs.Promises.{is_refused}
 use Rattle.hh_desk.specs.declared.told.Told.{Told}
 use Rattle.hh_desk.specs.declared.told.Told.TheVariants as told
 use Rattle.hh_desk.specs.Lines.{loaded_line, run_line}

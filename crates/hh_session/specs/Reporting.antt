@@ -5,7 +5,7 @@ use Rattle.hh_names.specs.declared.fault.Fault.{Fault}
 use Rattle.hh_names.specs.declared.fault.Refusal.{Refusal}
 use Rattle.hh_names.specs.Faults.{plain_fault}
 use Rattle.hh_states.specs.States.{State}
-use Rattle.hh_office.specs.Reports.{report_for}
+use Rattle.hh_desk.specs.Reports.{report_for}
 use Rattle.hh_script.specs.Reports.{ReportStep}
 use Rattle.hh_desk.specs.GivingUp.{GivesUpWhere}
 use Rattle.hh_session.specs.Lines.{refusal_line}

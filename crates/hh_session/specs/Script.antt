@@ -13,8 +13,8 @@ use Rattle.hh_names.specs.Faults.{memory_fault, plain_fault, ByRefusal}
 use Rattle.hh_rows.specs.declared.settings.Settings.{Settings}
 use Rattle.hh_states.specs.Content.{tables_of}
 use Rattle.hh_states.specs.States.{State, empty_state}
-use Rattle.hh_day.specs.Headline.{Conserves}
 use Rattle.hh_host.specs.Views.{HostView}
+use Rattle.hh_desk.specs.Headline.{Conserves}
 use Rattle.hh_script.specs.Script.{first_bad_line, script_value}
 use Rattle.hh_script.specs.Steps.{Step}
 use Rattle.hh_session.specs.declared.run.LinesStop.{LinesStop}

@@ -1,13 +1,12 @@
 //! Listeners for what came of each line of a script, beside what is written for it.
 
 ghost use Rattle.std.specs.Prelude.{◌≡◌};
-ghost use Rattle.hh_office.specs.Views.{IsSure};
-ghost use Rattle.hh_http_serve.specs.Serves.{CountsUp};
+ghost use Rattle.hh_desk.specs.Refusals.{CountsUp};
+ghost use Rattle.hh_desk.specs.Views.{IsSure};
 
-use hh_desk::Told;
+use hh_desk::{Office, Told};
 use hh_host::Host;
 use hh_names::Fault;
-use hh_office::Office;
 use hh_requests::Reply;
 use hh_script::ScriptLine;
 use hh_store::Tables;
@@ -28,7 +27,7 @@ pub enum Came {
 
 impl Came {
     ghost use Rattle.std.specs.Prelude.{◌≡◌, not};
-    ghost use Rattle.hh_office.specs.Promises.{is_refused};
+    ghost use Rattle.hh_desk.specs.Promises.{is_refused};
     ghost use Rattle.hh_session.specs.Came.{was_done};
     ghost use Rattle.hh_session.specs.Lines.{told_done};
 

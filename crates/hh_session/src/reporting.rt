@@ -3,17 +3,16 @@
 ghost use Rattle.std.specs.Prelude.{◌≡◌, IfOk, OnErr, OnOk};
 ghost use Rattle.hh_devices.specs.DeviceChanges.{change};
 ghost use Rattle.hh_devices.specs.Devices.{Failed};
-ghost use Rattle.hh_office.specs.Views.{IsSure};
-ghost use Rattle.hh_http_serve.specs.Serves.{CountsUp};
+ghost use Rattle.hh_desk.specs.Refusals.{CountsUp, HasRefused};
+ghost use Rattle.hh_desk.specs.Views.{IsSure};
 ghost use Rattle.hh_script.specs.Reports.{report_of};
-ghost use Rattle.hh_desk.specs.GivingUp.{HasRefused};
 ghost use Rattle.hh_session.specs.Came.{was_done};
 ghost use Rattle.hh_session.specs.steps.Reporting.{BeginsReport, RunsReport};
 
 use crate::notes::Came;
 use crate::tell::tell_refused;
+use hh_desk::{Office, ReportStop};
 use hh_devices::{DeviceFailed, Sink};
-use hh_office::{Office, ReportStop};
 use hh_script::ReportLine;
 use hh_store::Tables;
 use std::alloc::Global;

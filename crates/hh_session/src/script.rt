@@ -9,12 +9,11 @@ ghost use Rattle.hh_session.specs.ScriptStops.{IsUnrun};
 
 use crate::notes::Notes;
 use crate::run::{LinesStop, run_lines};
-use hh_day::reached_conserve;
+use hh_desk::{Office, reached_conserve};
 use hh_devices::Sink;
 use hh_host::Host;
 use hh_inputs::InputFault;
 use hh_names::{Fault, Refusal};
-use hh_office::Office;
 use hh_plain_tables::PlainTables;
 use hh_rows::Settings;
 use hh_script::{BadWord, ScriptFault, ScriptLine, read_script};

@@ -3,17 +3,15 @@
 ghost use Rattle.std.specs.Prelude.{◌≡◌, IfOk, OnErr, OnOk};
 ghost use Rattle.hh_devices.specs.DeviceChanges.{change};
 ghost use Rattle.hh_devices.specs.Devices.{Failed};
-ghost use Rattle.hh_office.specs.Views.{IsSure};
-ghost use Rattle.hh_http_serve.specs.Serves.{CountsUp};
-ghost use Rattle.hh_desk.specs.GivingUp.{HasRefused};
+ghost use Rattle.hh_desk.specs.Refusals.{CountsUp, HasRefused};
+ghost use Rattle.hh_desk.specs.Views.{IsSure};
 ghost use Rattle.hh_session.specs.Came.{was_done};
 ghost use Rattle.hh_session.specs.steps.Serving.{RunsServing, StopsServing};
 
 use crate::notes::Came;
-use hh_desk::{listening_line, serve_each};
+use hh_desk::{Office, listening_line, serve_each};
 use hh_devices::{DeviceFailed, Sink, write_whole};
 use hh_host::{FixedClock, Host};
-use hh_office::Office;
 use hh_script::ServeLine;
 use hh_sockets::{Listener, SocketFailed};
 use hh_store::Tables;

@@ -1,8 +1,15 @@
 //! The program `settle`.
 #![tactic(auto)]
 
-use hh_command::run;
+mod database;
+mod explaining;
+mod no_words;
+mod program;
+mod stop;
+mod telling;
+
 use hh_devices::StreamSink;
+use program::run;
 use std::alloc::{AllocError, Global};
 use std::process::ExitCode;
 

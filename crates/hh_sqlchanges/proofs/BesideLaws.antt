@@ -20,7 +20,7 @@ use Rattle.hh_rules.specs.declared.positions.PositionKey.{PositionKey}
 use Rattle.hh_states.specs.Changes.{LoadChangeView, RunChangeView, effect_of_load}
 use Rattle.hh_state_laws.proofs.RisingLaws.{filter-map}
 use Rattle.hh_keyed_rows.specs.declared.no_columns.NoColumns.{NoColumns}
-use Rattle.hh_beside.specs.Beside.{is_among}
+use Rattle.hh_states.specs.Beside.{is_among}
 use Rattle.hh_beside.specs.DayLaws.{HaveTheSame}
 use Rattle.hh_beside.specs.Keeping.{beside_with_load, beside_with_run, positions_with, touched_by}
 use Rattle.hh_beside.specs.Laws.{AreAlike}

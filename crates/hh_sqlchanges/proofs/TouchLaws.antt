@@ -12,7 +12,7 @@ use Rattle.hh_rows.specs.Keys.{settlement_period_cmp}
 use Rattle.hh_rows.specs.declared.rows.Row.{Row}
 use Rattle.hh_rows.specs.declared.settlement_period.SettlementPeriod.{SettlementPeriod}
 use Rattle.hh_rows.proofs.KeyLaws.{exact_settlement_periods}
-use Rattle.hh_beside.specs.Beside.{is_among}
+use Rattle.hh_states.specs.Beside.{is_among}
 use Rattle.hh_beside.specs.DayLaws.{HaveTheSame}
 use Rattle.hh_beside.specs.Keeping.{touched_by}
 use Rattle.hh_beside.proofs.AgreeLaws.{among_both}

@@ -13,8 +13,7 @@ use crate::file_rows::write_file_rows;
 use hh_keyed_rows::RowFault;
 use hh_rows::SettlementPeriod;
 use hh_rules::{Position, PositionKey};
-use hh_sqlrows::{replace_file, replace_references};
-use hh_store::LoadChange;
+use hh_sqlrows::{LoadChange, replace_file, replace_references};
 use sqlite::{Alter, Transaction};
 use std::alloc::Global;
 

@@ -8,8 +8,9 @@ ghost use Rattle.hh_sqlchanges.specs.Writes.{ChangesByRun};
 ghost use Rattle.hh_sqlchanges.specs.steps.Becoming.{StoresRunAlone};
 
 use hh_keyed_rows::RowFault;
-use hh_sqlrows::{insert_credits, insert_postings, insert_results, insert_run, untouch_on};
-use hh_store::RunChange;
+use hh_sqlrows::{
+    RunChange, insert_credits, insert_postings, insert_results, insert_run, untouch_on,
+};
 use sqlite::{Alter, Transaction};
 use std::alloc::Global;
 

@@ -15,8 +15,8 @@ use Rattle.hh_rules.specs.Positions.{position_key_cmp}
 use Rattle.hh_runs.specs.declared.run_key.RunKey.{RunKey}
 use Rattle.hh_runs.specs.declared.summary.Summary.{Summary}
 use Rattle.hh_states.specs.Runs.{last_of, run_key_cmp}
-use Rattle.hh_beside.specs.Beside.{is_among, latest_on}
-use Rattle.hh_beside.proofs.PositionKeys.{exact_position_keys}
+use Rattle.hh_states.specs.Beside.{is_among, latest_on}
+use Rattle.hh_kept_rows.proofs.PositionKeys.{exact_position_keys}
 use Rattle.hh_kept_rows.specs.DayBeside.{IsBesideOf}
 use Rattle.hh_kept_rows.specs.declared.day_beside.DayBeside.{DayBeside}
 use Rattle.hh_sqlrows.specs.Contents.{beside_in, content_of, result_of, touched_periods}

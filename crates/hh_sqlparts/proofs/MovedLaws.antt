@@ -19,10 +19,10 @@ use Rattle.hh_rules.specs.RegisterView.{AgreesOn}
 use Rattle.hh_rules.specs.declared.positions.Position.{Position}
 use Rattle.hh_rules.specs.declared.positions.Position.TheVariants.{Known}
 use Rattle.hh_rules.specs.declared.positions.PositionKey.{PositionKey}
-use Rattle.hh_beside.specs.Keeping.{positions_with}
-use Rattle.hh_beside.specs.PositionLaws.{AgreesOnPositions}
-use Rattle.hh_beside.proofs.PositionKeys.{position_key_total}
-use Rattle.hh_beside.proofs.PositionParts.{parts_give_positions, parts_serve}
+use Rattle.hh_kept_rows.specs.Keeping.{positions_with}
+use Rattle.hh_kept_rows.specs.PositionLaws.{AgreesOnPositions}
+use Rattle.hh_kept_rows.proofs.PositionKeys.{position_key_total}
+use Rattle.hh_kept_rows.proofs.PositionParts.{parts_give_positions, parts_serve}
 use Rattle.hh_sqlparts.specs.steps.Moved.{HasBoth, ServesPositions, buyer_of, seller_of}
 use Rattle.hh_sqlparts.specs.steps.Named.{FindsNamed, IsAmong, entry_under, volume_key_of}
 use Rattle.hh_sqlparts.proofs.NamedNames.{among_more, kept_by_update, names_nothing, names_this}

@@ -26,7 +26,7 @@ use Rattle.hh_rows.proofs.KeyLaws.{contract_key_total, exact_reallocation_keys, 
 use Rattle.hh_rules.specs.Positions.{position_key_cmp}
 use Rattle.hh_rules.specs.declared.positions.Position.{Position}
 use Rattle.hh_rules.specs.declared.positions.PositionKey.{PositionKey}
-use Rattle.hh_beside.proofs.PositionKeys.{position_key_total}
+use Rattle.hh_kept_rows.proofs.PositionKeys.{position_key_total}
 use Rattle.hh_sqlrows.specs.OfficeTables.{is_of_unit_on}
 use Rattle.hh_sqlparts.specs.declared.named_names.UnitDay.{UnitDay}
 use Rattle.hh_sqlparts.specs.steps.Named.{FindsNamed, HasReallocated, IsAmong, date_of, entry_under, price_key_of, prices_of, reading_key_of, readings_of, reallocated_at, reallocated_of, reallocations_of, reference_of, unit_day, unit_day_of, unit_of, volume_key_of}

@@ -7,7 +7,7 @@ use Rattle.hh_rows.specs.declared.rows.ContractRow.{ContractRow}
 use Rattle.hh_rules.specs.Positions.{with_replaced}
 use Rattle.hh_rules.specs.declared.positions.Position.{Position}
 use Rattle.hh_rules.specs.declared.positions.PositionKey.{PositionKey}
-use Rattle.hh_beside.specs.Keeping.{positions_of}
+use Rattle.hh_kept_rows.specs.Keeping.{positions_of}
 
 positions_by_last : (r : ContractRow) (rows : List ContractRow) (positions : Table PositionKey Position) → with_replaced None r (positions_of rows positions) ≡ positions_of (rows ++ r ∷ []) positions
 positions_by_last r [] positions = refl

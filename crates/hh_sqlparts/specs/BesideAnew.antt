@@ -1,7 +1,7 @@
 -- What must be kept beside an office's tables if nothing is kept beside them yet.
 use Rattle.std.specs.Prelude.{◌≡◌, []}
 use Rattle.sqlite_trees.specs.Tree.{Trees}
-use Rattle.hh_beside.specs.Keeping.{periods_of_runs, positions_by}
+use Rattle.hh_kept_rows.specs.Keeping.{periods_of_runs, positions_by}
 use Rattle.hh_sqlrows.specs.Contents.{registered_of, touched_periods}
 use Rattle.hh_sqlrows.specs.Forms.{rows_under_keys}
 use Rattle.hh_sqlrows.specs.OfficeTables.{positions, runs}

@@ -2,3 +2,9 @@ pub mod BesideAnew
 pub mod Named
 pub mod Readings
 pub mod steps
+pub use Rattle.hh_kept_rows.specs.Parts
+pub use Rattle.hh_kept_rows.specs.DayBeside
+pub use Rattle.hh_kept_rows.specs.Keeping
+pub use Rattle.hh_kept_rows.specs.Laws
+pub use Rattle.hh_kept_rows.specs.DayLaws
+pub use Rattle.hh_kept_rows.specs.PositionLaws

@@ -4,7 +4,7 @@ ghost use Rattle.std.specs.Prelude.{◌≡◌, ◌++◌, [], false, filter_map, 
 ghost use Rattle.sqlite.specs.Held.{state};
 ghost use Rattle.hh_states.specs.DaySettlement.{periods_on};
 ghost use Rattle.hh_states.specs.PeriodSettlement.{row_in_force};
-ghost use Rattle.hh_beside.specs.Keeping.{periods_of_runs, positions_by, positions_of};
+ghost use Rattle.hh_kept_rows.specs.Keeping.{periods_of_runs, positions_by, positions_of};
 ghost use Rattle.hh_sqlrows.specs.Contents.{registered_of};
 ghost use Rattle.hh_sqlrows.specs.Forms.{rows_under_keys};
 ghost use Rattle.hh_sqlrows.specs.OfficeTables.{contracts, references, runs};

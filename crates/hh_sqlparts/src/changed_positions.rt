@@ -5,7 +5,7 @@ ghost use Rattle.std.specs.FinMap.{put};
 ghost use Rattle.hh_tables.specs.Tables.{put_all};
 ghost use Rattle.hh_rows.specs.Keys.{contract_key_cmp};
 ghost use Rattle.hh_rules.specs.Positions.{position_key_cmp, with_replaced};
-ghost use Rattle.hh_beside.specs.Keeping.{positions_with, replaced_by};
+ghost use Rattle.hh_kept_rows.specs.Keeping.{positions_with, replaced_by};
 ghost use Rattle.sqlite.specs.Held.{state};
 ghost use Rattle.hh_sqlrows.specs.Forms.{rows_under_keys};
 ghost use Rattle.hh_sqlrows.specs.OfficeTables.{contracts, positions};

@@ -20,4 +20,8 @@ pub use changed_positions::select_positions_after;
 pub use day_beside::select_day_beside;
 pub use day_contracts::select_contracts_of_day;
 pub use day_rows::select_day;
+pub use hh_kept_rows::{
+    contracts_by_their_rows, loads_agree, made_anew_agrees, made_anew_are_written, parts_of_parts,
+    postings_to, read_by_what_is_beside, runs_agree, runs_on,
+};
 pub use named::select_named;

@@ -13,9 +13,9 @@ use Rattle.hh_devices.specs.DeviceChanges.{DeviceChange}
 use Rattle.hh_reports.specs.Output.{CountsFault}
 use Rattle.hh_reports.specs.declared.fault.ReportFault.{ReportFault}
 use Rattle.hh_reports.specs.declared.fault.ReportFault.TheVariants.{Memory, Write}
-use Rattle.hh_store.specs.declared.output_fault.OutputFault.{OutputFault}
-use Rattle.hh_store.specs.Outputs.{CountsOutput}
-use Rattle.hh_store.specs.StoreFaults.{output_fault}
+use Rattle.hh_keyed_rows.specs.output_fault.OutputFault.{OutputFault}
+use Rattle.hh_keyed_rows.specs.Outputs.{CountsOutput}
+use Rattle.hh_keyed_rows.specs.StoreFaults.{output_fault}
 use Rattle.hh_sqlrows.specs.Giving.{GivesSo, TakesRow}
 use Rattle.hh_sqlrows.specs.steps.Answers.{IsRead}
 

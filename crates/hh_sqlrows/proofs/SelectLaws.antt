@@ -24,7 +24,7 @@ use Rattle.hh_keyed_rows.specs.KeyedRows.{entry_in}
 use Rattle.hh_keyed_rows.proofs.PlaceLaws.{is_Equal}
 use Rattle.hh_keyed_rows.proofs.RuleLaws.{all_columns, has_rowid, once}
 use Rattle.hh_keyed_rows.proofs.SelectLaws.{all_read, answers, map_map, selected}
-use Rattle.hh_store.specs.declared.output_fault.OutputFault.{OutputFault}
+use Rattle.hh_keyed_rows.specs.output_fault.OutputFault.{OutputFault}
 use Rattle.hh_sqlrows.specs.Giving.{GivesEach, GivesSo}
 use Rattle.hh_sqlrows.specs.OfficeSchema.{office}
 use Rattle.hh_sqlrows.specs.Office.{IsOffice}

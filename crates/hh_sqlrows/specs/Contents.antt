@@ -13,7 +13,7 @@ use Rattle.hh_states.specs.Runs.{run_key_cmp}
 use Rattle.hh_states.specs.declared.run_keys.PostingKey.{PostingKey}
 use Rattle.hh_states.specs.declared.run_keys.ResultKey.{ResultKey}
 use Rattle.hh_states.specs.Content.{Content}
-use Rattle.hh_beside.specs.Beside.{Beside, agrees}
+use Rattle.hh_states.specs.Beside.{Beside, agrees}
 use Rattle.hh_keyed_rows.specs.declared.amounts.AccountAmounts.{AccountAmounts}
 use Rattle.hh_keyed_rows.specs.Values.{account_row_of}
 use Rattle.hh_sqlrows.specs.Forms.{rows_under_keys}

@@ -1,6 +1,6 @@
 -- Rows that a statement selects and that are given to a taker, one after the other.
 use Rattle.std.specs.Prelude.{◌≡◌, ◌⊎◌, List, [], ◌∷◌, ◌++◌, Result, Ok, Err}
-use Rattle.hh_store.specs.declared.output_fault.OutputFault.{OutputFault}
+use Rattle.hh_keyed_rows.specs.output_fault.OutputFault.{OutputFault}
 
 -- `Has` says what a taker is after it was given rows. `Stopped` says how it stopped for a fault after some rows, and what it wrote.
 module _ {R : Type 0} (Has : List R → Type 0) (Stopped : OutputFault → List R → Type 0) where

@@ -6,12 +6,9 @@ use Rattle.sqlite_schema.specs.declared.schema.Table.{Table}
 use Rattle.sqlite_catalog.specs.Change.{created}
 use Rattle.sqlite_trees.specs.Tree.{Trees}
 use Rattle.sqlite.specs.Effect.{Database, IsDatabase}
-use Rattle.hh_sqlrows.specs.OfficeSchema.{office_tables}
+use Rattle.hh_sqlrows.specs.OfficeSchema.{nothing, office_tables}
 
 -- the schema of an empty database
-abbrev pub nothing : Schema
-nothing = record { tables = []; indexes = []; views = [] }
-
 -- the schema after `count` tables are made; a statement names no tree
 abbrev pub schema_up_to : ℕ → Schema
 schema_up_to count = fold created nothing (take count (map (λ (t : Table). record t { tree = 0 }) office_tables))

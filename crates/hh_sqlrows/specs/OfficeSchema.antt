@@ -156,5 +156,10 @@ office_tables =
     reallocations_table ∷ files_table ∷ runs_table ∷ results_table ∷ credits_table ∷ postings_table ∷
     positions_table ∷ touched_table ∷ marks_table ∷ []
 
+-- that of an empty database
+abbrev pub nothing : Schema
+nothing = record { tables = []; indexes = []; views = [] }
+
+-- that of an office's database
 abbrev pub office : Schema
 office = record { tables = office_tables; indexes = map key_index office_tables; views = [] }

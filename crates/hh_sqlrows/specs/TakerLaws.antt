@@ -12,7 +12,7 @@ use Rattle.hh_reports.specs.Exports.{balances_text, results_text}
 use Rattle.hh_reports.specs.Nets.{Amounts, sum_for}
 use Rattle.hh_reports.specs.Output.{IsPassed}
 use Rattle.hh_reports.specs.Writers.{BalancesState, DayState, HasBalances, HasDay, HasResults, ResultsState, Rows}
-use Rattle.hh_store.specs.Outputs.{CountsOutput}
+use Rattle.hh_keyed_rows.specs.Outputs.{CountsOutput}
 
 module _ (device : DeviceChange) (fault : RowFault) where
   counted : (f : RowFault) → IsWell device → CountsOutput device (output_refused f)

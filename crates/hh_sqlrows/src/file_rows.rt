@@ -11,9 +11,8 @@ ghost use Rattle.hh_sqlrows.specs.Reads.{CommitsNothingOf, IsHonest, LeavesOffic
 ghost use Rattle.hh_sqlrows.specs.Statements.{CommitsNothing, Inside, KeepsCommit, StaysInside};
 
 use crate::statement::{select_first, write_entry};
-use hh_keyed_rows::RowFault;
+use hh_keyed_rows::{KeptFile, RowFault};
 use hh_states::FileKey;
-use hh_store::KeptFile;
 use sqlite::{Alter, Connection, Transaction};
 use std::alloc::Global;
 

@@ -15,8 +15,7 @@ ghost use Rattle.hh_sqlrows.specs.steps.Streams.{HasTaken, IsBegun, OfPlain, Tak
 
 use crate::taker::RowTaker;
 use hh_devices::Sink;
-use hh_keyed_rows::{Columned, RowFault, read_entry};
-use hh_store::OutputFault;
+use hh_keyed_rows::{Columned, OutputFault, RowFault, read_entry};
 use sqlite::types::ValueRef;
 use sqlite::{Alter, Connection, Row, Rows};
 use std::alloc::Global;

@@ -16,10 +16,9 @@ use crate::giving::give_entries;
 use crate::statement::{select_entries, select_first, write_entry};
 use crate::taker::RowTaker;
 use hh_devices::Sink;
-use hh_keyed_rows::RowFault;
+use hh_keyed_rows::{OutputFault, RowFault};
 use hh_names::PartyId;
 use hh_rows::{PartyRegistration, PartyRow};
-use hh_store::OutputFault;
 use sqlite::{Alter, Connection, Transaction};
 use std::alloc::Global;
 

@@ -9,19 +9,18 @@ ghost use Rattle.hh_reports.specs.DayReport.{day_report_begun};
 ghost use Rattle.hh_reports.specs.Exports.{balances_text, results_text};
 ghost use Rattle.hh_reports.specs.Nets.{Amounts, sum_for};
 ghost use Rattle.hh_reports.specs.Writers.{HasAmounts, HasBalances, HasDay, HasResults};
-ghost use Rattle.hh_store.specs.Outputs.{Outputs};
+ghost use Rattle.hh_keyed_rows.specs.Outputs.{Outputs};
 ghost use Rattle.hh_sqlrows.specs.Contents.{period_row, posted_amount};
 ghost use Rattle.hh_sqlrows.specs.TakerLaws.{balances_left, day_left, nothing_left, results_left};
 
 use crate::taker::RowTaker;
 use hh_devices::Sink;
-use hh_keyed_rows::AccountAmounts;
+use hh_keyed_rows::{AccountAmounts, OutputFault};
 use hh_names::PartyId;
 use hh_num::Pence;
 use hh_reports::{AccountSums, BalancesWriter, DayReportWriter, ResultsWriter};
 use hh_rows::PartyRegistration;
 use hh_states::{PostingKey, ResultKey};
-use hh_store::OutputFault;
 
 /// Writes the results of a run.
 impl RowTaker<ResultKey, AccountAmounts> for ResultsWriter {

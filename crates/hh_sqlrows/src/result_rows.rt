@@ -18,10 +18,9 @@ use crate::statement::{GROUP, select_by, write_entries, write_entry};
 use crate::taker::RowTaker;
 use hh_calc::AccountRow;
 use hh_devices::Sink;
-use hh_keyed_rows::{AccountAmounts, RowFault};
+use hh_keyed_rows::{AccountAmounts, OutputFault, RowFault};
 use hh_runs::RunKey;
 use hh_states::ResultKey;
-use hh_store::OutputFault;
 use sqlite::{Alter, Connection, Transaction};
 use std::alloc::{AllocError, Global};
 

@@ -4,11 +4,11 @@ ghost use Rattle.std.specs.Prelude.{List, []};
 ghost use Rattle.hh_devices.specs.DeviceChanges.{change, DeviceChange};
 ghost use Rattle.hh_keyed_rows.specs.RowFaults.{output_refused};
 ghost use Rattle.hh_keyed_rows.specs.declared.row_fault.RowFault.{RowFault};
-ghost use Rattle.hh_store.specs.declared.output_fault.OutputFault.{OutputFault};
+ghost use Rattle.hh_keyed_rows.specs.output_fault.OutputFault.{OutputFault};
 ghost use Rattle.hh_sqlrows.specs.Giving.{TakesRow};
 
 use hh_devices::Sink;
-use hh_store::OutputFault;
+use hh_keyed_rows::OutputFault;
 
 /// A taker of the rows of a table, each with its key, one after the other. It writes what the rows come to.
 pub trait RowTaker<K, V> {

@@ -10,9 +10,9 @@ use Rattle.hh_keyed_rows.specs.Values.{version}
 use Rattle.hh_sqlrows.specs.Contents.{mark_in, stored_content}
 use Rattle.hh_sqlrows.specs.Office.{IsOffice}
 use Rattle.hh_sqlrows.specs.OfficeTables.{one_row_cmp}
-use Rattle.hh_sqlstore.specs.Holds.{HasSettings, Holds}
-use Rattle.hh_sqlstore.specs.Leaving.{IsTakenOver, KeepsBeside, KeepsHeld, MayKeepBeside}
-use Rattle.hh_sqlstore.specs.steps.Adopted.{IsAdoptedFrom}
+use Rattle.hh_sqlschema.specs.Holds.{HasSettings, Holds}
+use Rattle.hh_sqlschema.specs.Leaving.{IsTakenOver, KeepsBeside, KeepsHeld, MayKeepBeside}
+use Rattle.hh_sqlschema.specs.Adopted.{IsAdoptedFrom}
 use Rattle.hh_sqlstore.specs.steps.Kept.{IsMarked}
 use Rattle.hh_sqlstore.proofs.ContentLaws.{content_is}
 use Rattle.hh_sqlstore.proofs.CrashLaws.{trees_hold}

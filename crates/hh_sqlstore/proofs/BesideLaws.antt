@@ -10,18 +10,18 @@ use Rattle.hh_rows.specs.declared.settings.Settings.{Settings}
 use Rattle.hh_states.specs.Changes.{IsLoadFrom, IsRunFrom, LoadEffect, LoadChangeView, RunEffect, RunChangeView, effect_of_load, effect_of_run}
 use Rattle.hh_rules.specs.Positions.{position_key_cmp}
 use Rattle.hh_states.specs.PeriodSettlement.{row_in_force}
-use Rattle.hh_beside.specs.DayLaws.{HaveTheSame}
+use Rattle.hh_sqlparts.specs.DayLaws.{HaveTheSame}
 use Rattle.hh_states.specs.Content.{Content, tables_of}
-use Rattle.hh_beside.specs.Beside.{agrees}
-use Rattle.hh_beside.specs.Keeping.{beside_of, beside_with_load, beside_with_run, periods_of_runs}
-use Rattle.hh_beside.specs.Laws.{AreAlike, LoadsAgree, MadeAnewAgrees, RunsAgree}
-use Rattle.hh_beside.specs.PositionLaws.{MadeAnewAreWritten}
+use Rattle.hh_states.specs.Beside.{agrees}
+use Rattle.hh_sqlparts.specs.Keeping.{beside_of, beside_with_load, beside_with_run, periods_of_runs}
+use Rattle.hh_sqlparts.specs.Laws.{AreAlike, LoadsAgree, MadeAnewAgrees, RunsAgree}
+use Rattle.hh_sqlparts.specs.PositionLaws.{MadeAnewAreWritten}
 use Rattle.hh_sqlrows.specs.Contents.{beside_in, content_of, is_in_step_in, mark_in, registered_of, stored_content}
 use Rattle.hh_sqlparts.specs.BesideAnew.{IsBesideAnew}
 use Rattle.hh_sqlparts.specs.declared.beside_anew.BesideAnew.{BesideAnew}
 use Rattle.hh_sqlchanges.specs.OwnAccounts.{RowsOfTheirAccounts}
 use Rattle.hh_sqlchanges.specs.Writes.{WritesBesideAnew}
-use Rattle.hh_sqlstore.specs.Leaving.{KeepsBeside}
+use Rattle.hh_sqlschema.specs.Leaving.{KeepsBeside}
 use Rattle.hh_sqlstore.specs.steps.Changed.{KeepsLoad, KeepsRun}
 
 -- if positions are kept, what is kept is in step exactly if it agrees

@@ -18,11 +18,11 @@ use Rattle.hh_sqlrows.specs.Reads.{IsHonest}
 use Rattle.hh_sqlchanges.specs.Writes.{StaysOffice}
 use Rattle.hh_sqlparts.specs.Readings.{OfCommitted, ReadsSafely, SelectsOnly}
 use Rattle.hh_sqlparts.proofs.ReadingLaws.{reading_then}
-use Rattle.hh_sqlstore.specs.Holds.{Holds}
-use Rattle.hh_sqlstore.specs.Leaving.{MayStand}
+use Rattle.hh_sqlschema.specs.Holds.{Holds}
+use Rattle.hh_sqlschema.specs.Leaving.{MayStand}
 use Rattle.hh_sqlstore.specs.Stores.{IsIdle, Stored, content_in}
 use Rattle.hh_sqlstore.specs.steps.Changed.{ChangesNothing, IsChangedBy, MayChange}
-use Rattle.hh_sqlstore.specs.steps.Made.{IsUndone}
+use Rattle.hh_sqlschema.specs.Made.{IsUndone}
 
 -- a transaction that was undone has only read
 pub reading_of_undone : (old new : State) → (IsTrue new.is_open → HasCleanDisk new) → IsUndone old new → SelectsOnly old new

@@ -9,7 +9,7 @@ use Rattle.hh_rules.specs.History.{Registered}
 use Rattle.hh_states.specs.Content.{Content}
 use Rattle.hh_keyed_rows.specs.Values.{version}
 use Rattle.hh_sqlrows.specs.Contents.{registered_of, stored_content}
-use Rattle.hh_sqlstore.specs.Holds.{Holds}
+use Rattle.hh_sqlschema.specs.Holds.{Holds}
 
 unshut : (is_open is_clean : Bool) → (is_clean ≡ false → is_open ≡ false) → IsTrue is_open → doubt is_clean ≡ 0
 unfolding doubt

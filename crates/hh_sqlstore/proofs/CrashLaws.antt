@@ -17,7 +17,7 @@ use Rattle.hh_sqlrows.specs.OfficeSchema.{office}
 use Rattle.hh_sqlchanges.specs.Writes.{StaysOffice}
 use Rattle.hh_sqlparts.specs.Readings.{LeavesNoMore, OfCommitted}
 use Rattle.hh_keyed_rows.specs.Values.{version}
-use Rattle.hh_sqlstore.specs.Holds.{Holds, TreesHold}
+use Rattle.hh_sqlschema.specs.Holds.{Holds, TreesHold}
 use Rattle.hh_sqlstore.specs.Stores.{IsHonestDisk, IsIdle, Stored, content_in}
 use Rattle.hh_sqlstore.specs.steps.Changed.{MayChange}
 use Rattle.hh_sqlstore.proofs.ChangeLaws.{still_holds}

@@ -4,7 +4,7 @@ use Rattle.sqlite.specs.Effect.{Database}
 use Rattle.sqlite.specs.State.{HasCleanDisk, State, Survives}
 use Rattle.sqlite_trees.specs.Tree.{Trees}
 use Rattle.hh_sqlparts.specs.Readings.{LeavesNoMore}
-use Rattle.hh_sqlstore.specs.Leaving.{KeepsBeside, MayKeepBeside, MayStand}
+use Rattle.hh_sqlschema.specs.Leaving.{KeepsBeside, MayKeepBeside, MayStand}
 
 or_never : {A : Type 0} → A ⊎ ⊥ → A
 or_never (inl a) = a

@@ -5,6 +5,5 @@ pub mod ContentLaws
 pub mod CrashLaws
 pub mod IdleLaws
 pub mod KeepingLaws
-pub mod NewLaws
 pub mod ReadLaws
 pub mod ReportLaws

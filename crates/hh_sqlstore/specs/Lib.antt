@@ -1,6 +1,6 @@
-pub mod Holds
-pub mod Leaving
-pub mod Making
-pub mod RiseLaws
 pub mod Stores
 pub mod steps
+pub use Rattle.hh_sqlrows.specs.OfficeSchema
+pub use Rattle.hh_sqlschema.specs.Holds
+pub use Rattle.hh_sqlschema.specs.Leaving
+pub use Rattle.hh_sqlschema.specs.Making

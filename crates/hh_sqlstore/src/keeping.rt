@@ -7,15 +7,14 @@ ghost use Rattle.hh_sqlrows.specs.Contents.{mark_in};
 ghost use Rattle.hh_sqlrows.specs.Office.{IsOffice};
 ghost use Rattle.hh_sqlrows.specs.Reads.{IsHonest};
 ghost use Rattle.hh_sqlchanges.specs.Writes.{WritesBesideAnew};
-ghost use Rattle.hh_sqlstore.specs.Leaving.{MayKeepBeside, MayStand};
+ghost use Rattle.hh_sqlschema.specs.Leaving.{MayKeepBeside, MayStand};
 ghost use Rattle.hh_sqlstore.specs.steps.Changed.{ChangesNothing, IsChangedBy};
-ghost use Rattle.hh_sqlstore.specs.steps.Made.{IsUndone};
+ghost use Rattle.hh_sqlschema.specs.Made.{IsUndone};
 ghost use Rattle.hh_sqlstore.specs.steps.Kept.{IsMarked};
 
-use hh_beside::{made_anew_agrees, made_anew_are_written};
 use hh_keyed_rows::RowFault;
 use hh_sqlchanges::write_beside_anew;
-use hh_sqlparts::{BesideAnew, select_beside_anew};
+use hh_sqlparts::{BesideAnew, made_anew_agrees, made_anew_are_written, select_beside_anew};
 use hh_sqlrows::select_mark;
 use sqlite::{Alter, Connection};
 use std::alloc::Global;

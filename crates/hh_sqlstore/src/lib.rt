@@ -5,15 +5,11 @@ mod adopting;
 mod changing;
 mod faults;
 mod keeping;
-mod making;
-mod office_tables;
 mod parts;
 mod reporting;
-mod rising;
 mod rows;
-mod schema;
 mod sql_tables;
 mod tables;
 
-pub use rising::Rising;
+pub use hh_sqlschema::Rising;
 pub use sql_tables::SqlTables;

@@ -6,18 +6,20 @@ ghost use Rattle.hh_rules.specs.RegisterView.{ServesFor};
 ghost use Rattle.hh_states.specs.DaySettlement.{periods_on};
 ghost use Rattle.hh_states.specs.Reads.{contracts_of};
 ghost use Rattle.hh_store.specs.DayReads.{IsDayData};
-ghost use Rattle.hh_kept_rows.specs.Parts.{whole_of};
+ghost use Rattle.hh_sqlparts.specs.Parts.{whole_of};
 ghost use Rattle.hh_rows.specs.declared.settings.Settings.{Settings};
-ghost use Rattle.hh_beside.specs.Beside.{agrees};
+ghost use Rattle.hh_states.specs.Beside.{agrees};
 ghost use Rattle.hh_sqlrows.specs.Contents.{beside_in, content_of, registered_of};
 ghost use Rattle.hh_sqlparts.specs.Readings.{OfSettled, ReadsSafely, SelectsOnly};
 
-use hh_kept_rows::{contracts_by_their_rows, parts_of_parts, read_by_what_is_beside};
 use hh_keyed_rows::RowFault;
 use hh_names::Account;
 use hh_rows::{ContractRow, LeadMinutes, Row};
 use hh_rules::Register;
-use hh_sqlparts::{select_contracts_of_day, select_day, select_day_beside, select_named};
+use hh_sqlparts::{
+    contracts_by_their_rows, parts_of_parts, read_by_what_is_beside, select_contracts_of_day,
+    select_day, select_day_beside, select_named,
+};
 use hh_store::{DayData, StoreFault};
 use hh_time::{Day, SettlementDate};
 use sqlite::{Alter, Connection};

@@ -11,12 +11,12 @@ ghost use Rattle.hh_sqlparts.specs.Readings.{OfSettled, ReadsSafely, SelectsOnly
 ghost use Rattle.hh_sqlstore.specs.Stores.{ArePosted};
 
 use hh_calc::AccountRow;
-use hh_kept_rows::{postings_to, runs_on};
 use hh_keyed_rows::{AccountAmounts, RowFault};
 use hh_names::{Account, PartyId, PeriodNumber};
 use hh_num::Pence;
 use hh_rows::PartyRegistration;
 use hh_runs::{RunKey, RunKind, Summary};
+use hh_sqlparts::{postings_to, runs_on};
 use hh_sqlrows::{select_parties, select_postings, select_results_of, select_runs_on};
 use hh_states::{PostingKey, ResultKey};
 use hh_time::SettlementDate;

@@ -2,7 +2,7 @@
 
 ghost use Rattle.sqlite_trees.specs.Tree.{Trees};
 ghost use Rattle.sqlite.specs.Held.{state};
-ghost use Rattle.hh_sqlstore.specs.Holds.{TreesHold};
+ghost use Rattle.hh_sqlschema.specs.Holds.{TreesHold};
 ghost use Rattle.hh_sqlstore.specs.Stores.{IsHonestDisk, content_in};
 
 use crate::changing::{keep_load, keep_run};
@@ -11,7 +11,6 @@ use crate::parts::{contracts_of_account, data_of_day, register_of};
 use crate::reporting::{write_balances, write_day_report, write_results};
 use crate::rows::{is_key_known, postings_to_account, results_of_run, runs_of_date};
 use crate::sql_tables::SqlTables;
-use hh_beside::{loads_agree, runs_agree};
 use hh_calc::AccountRow;
 use hh_devices::Sink;
 use hh_names::{Account, Counterparties, FileName, PartyId, PeriodNumber, Reference, UnitId};
@@ -19,9 +18,9 @@ use hh_num::Pence;
 use hh_rows::{ContractRow, FileKind, PartyRegistration, Row, Settings, UnitRegistration};
 use hh_rules::Register;
 use hh_runs::{RunKey, RunKind, Summary};
-use hh_sqlchanges::rows_of_their_accounts;
+use hh_sqlchanges::{load_effect, rows_of_their_accounts, run_effect};
+use hh_sqlparts::{loads_agree, runs_agree};
 use hh_sqlrows::{select_file, select_party, select_reference, select_unit};
-use hh_state_laws::{load_effect, run_effect};
 use hh_states::FileKey;
 use hh_store::{
     DayData, KeptFile, LoadChange, OutputFault, RunChange, StoreFault, Tables, reported_as,

@@ -1,4 +1,5 @@
 pub mod Amounts
+pub mod Beside
 pub mod Changes
 pub mod Content
 pub mod DaySettlement
@@ -13,3 +14,14 @@ pub mod Soundness
 pub mod States
 pub mod Steps
 pub mod Sums
+pub use Rattle.hh_rules.specs.History
+pub use Rattle.hh_rules.specs.RegisterView
+pub use Rattle.hh_calc.specs.Limits
+pub use Rattle.hh_calc.specs.Formulas
+pub use Rattle.hh_calc.specs.Ready
+pub use Rattle.hh_calc.specs.Terms
+pub use Rattle.hh_calc.specs.declared.result
+pub use Rattle.hh_runs.specs.declared.summary
+pub use Rattle.hh_runs.specs.declared.run_key
+pub use Rattle.hh_rows.specs.declared.settlement_period
+pub use Rattle.hh_rules.specs.declared.positions

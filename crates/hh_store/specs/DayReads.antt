@@ -1,13 +1,13 @@
 -- What is read of a Settlement Day in order to settle it.
 use Rattle.std.specs.Prelude.{◌≡◌, ◌⊎◌, ℕ, List, length, filter, Bool, true, false, None, IsTrue}
 use Rattle.std.specs.List.{AllZip}
-use Rattle.hh_rows.specs.declared.settlement_period.SettlementPeriod.{SettlementPeriod}
-use Rattle.hh_rules.specs.History.{Registered}
-use Rattle.hh_calc.specs.Limits.{is_within_limits}
-use Rattle.hh_calc.specs.Formulas.{netted}
-use Rattle.hh_calc.specs.Ready.{HasNetVolumes}
-use Rattle.hh_calc.specs.Terms.{PeriodDataView}
+use Rattle.hh_states.specs.settlement_period.SettlementPeriod.{SettlementPeriod}
+use Rattle.hh_states.specs.Limits.{is_within_limits}
+use Rattle.hh_states.specs.Formulas.{netted}
+use Rattle.hh_states.specs.Ready.{HasNetVolumes}
+use Rattle.hh_states.specs.Terms.{PeriodDataView}
 use Rattle.hh_states.specs.DaySettlement.{missing_meter, missing_price}
+use Rattle.hh_states.specs.History.{Registered}
 use Rattle.hh_states.specs.PeriodSettlement.{settled, terms_at}
 use Rattle.hh_store.specs.declared.day_data.DayData.{DayData}
 use Rattle.hh_store.specs.declared.day_data.PeriodState.{PeriodState}

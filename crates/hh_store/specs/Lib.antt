@@ -4,3 +4,8 @@ pub mod Outputs
 pub mod OwnRows
 pub mod Reached
 pub mod StoreFaults
+pub use Rattle.hh_states.specs.declared.file_key
+pub use Rattle.hh_states.specs.declared.run_keys
+pub use Rattle.hh_states.specs.States
+pub use Rattle.hh_states.specs.result
+pub use Rattle.hh_states.specs.positions

@@ -6,8 +6,8 @@ use Rattle.hh_num.specs.Totals.{total}
 use Rattle.hh_devices.specs.DeviceChanges.{DeviceChange, HasFailed, IsWell}
 use Rattle.hh_devices.specs.Devices.{AppendsFront}
 use Rattle.hh_names.specs.declared.account.Account.{Account}
-use Rattle.hh_runs.specs.declared.summary.Summary.{Summary}
-use Rattle.hh_runs.specs.declared.run_key.RunKey.{RunKey}
+use Rattle.hh_states.specs.summary.Summary.{Summary}
+use Rattle.hh_states.specs.run_key.RunKey.{RunKey}
 use Rattle.hh_reports.specs.declared.run.ReportedRun.{ReportedRun}
 use Rattle.hh_reports.specs.DayReport.{day_report_text}
 use Rattle.hh_reports.specs.Exports.{balances_text, results_text}

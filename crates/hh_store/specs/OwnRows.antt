@@ -1,8 +1,8 @@
 -- The rows that are written for a run are its own.
 use Rattle.std.specs.Prelude.{◌≡◌, ℤ, List}
 use Rattle.std.specs.List.{AllByRecursion}
-use Rattle.hh_calc.specs.declared.result.AccountRow.{AccountRow}
-use Rattle.hh_runs.specs.declared.run_key.RunKey.{RunKey}
+use Rattle.hh_states.specs.result.AccountRow.{AccountRow}
+use Rattle.hh_states.specs.run_key.RunKey.{RunKey}
 use Rattle.hh_states.specs.declared.run_keys.CreditKey.{CreditKey}
 use Rattle.hh_states.specs.declared.run_keys.PostingKey.{PostingKey}
 use Rattle.hh_states.specs.declared.run_keys.ResultKey.{ResultKey}

@@ -3,8 +3,7 @@
 ghost use Rattle.std.specs.Prelude.{◌≡◌};
 ghost use Rattle.hh_store.specs.DayReads.{count_changed, is_changed};
 
-use hh_calc::{PeriodData, PeriodResult};
-use hh_rows::{SettlementPeriod, UnitPeriod};
+use hh_states::{PeriodData, PeriodResult, SettlementPeriod, UnitPeriod};
 
 /// What the Settlement Periods of a date are settled from, and what is missing for that.
 #[derive(Debug, Drop)]

@@ -2,7 +2,7 @@
 
 ghost use Rattle.std.specs.Prelude.{◌≡◌, IfOk};
 
-use hh_rows::FileBody;
+use hh_states::FileBody;
 use std::alloc::AllocError;
 use std::marker::Model;
 

@@ -4,8 +4,7 @@ ghost use Rattle.std.specs.Prelude.{◌≡◌};
 
 use crate::kept_file::KeptFile;
 use hh_names::{Counterparties, FileName, Reference};
-use hh_rows::{FileKind, Row};
-use hh_states::FileKey;
+use hh_states::{FileKey, FileKind, Row};
 use std::marker::Model;
 
 /// What is written into the tables for an accepted file: the file with the counts of its reply, its rows

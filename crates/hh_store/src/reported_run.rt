@@ -4,7 +4,7 @@ ghost use Rattle.std.specs.Prelude.{◌≡◌};
 ghost use Rattle.hh_store.specs.Outputs.{reported_as};
 
 use hh_reports::ReportedRun;
-use hh_runs::{RunKey, Summary};
+use hh_states::{RunKey, Summary};
 
 /// A run with this summary, as its reports show it.
 pub fn reported_as(run: &RunKey, summary: &Summary) -> ReportedRun

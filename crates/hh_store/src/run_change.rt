@@ -3,10 +3,8 @@
 ghost use Rattle.std.specs.Prelude.{◌≡◌};
 ghost use Rattle.hh_store.specs.OwnRows.{AreOwnRows};
 
-use hh_calc::AccountRow;
 use hh_num::{Pence, Ticks};
-use hh_runs::{RunKey, Summary};
-use hh_states::{CreditKey, PostingKey, ResultKey};
+use hh_states::{AccountRow, CreditKey, PostingKey, ResultKey, RunKey, Summary};
 use std::marker::Model;
 
 /// What is written into the tables for a new run: its summary, the rows of its accounts, its credits and

@@ -3,11 +3,11 @@
 ghost use Rattle.std.specs.Prelude.{◌≡◌, ℕ, Bool, IfOk, IsTrue, OnOk, OnErr};
 ghost use Rattle.hh_devices.specs.DeviceChanges.{change};
 ghost use Rattle.hh_time.specs.Days.{Midnights};
-ghost use Rattle.hh_rules.specs.RegisterView.{ServesFor};
 ghost use Rattle.hh_states.specs.Changes.{IsLoadFrom, IsRunFrom, effect_of_load, effect_of_run};
 ghost use Rattle.hh_states.specs.Content.{Content};
 ghost use Rattle.hh_states.specs.DaySettlement.{periods_on};
 ghost use Rattle.hh_states.specs.Reads.{contracts_in, file_in, is_key_known, party_in, postings_in, reference_in, results_in, runs_in, unit_in, whole_register};
+ghost use Rattle.hh_states.specs.RegisterView.{ServesFor};
 ghost use Rattle.hh_store.specs.Crashes.{AddsNothing, AddsOnly, LeavesContent, MakesLoad, MakesRun};
 ghost use Rattle.hh_store.specs.DayReads.{IsDayData};
 ghost use Rattle.hh_store.specs.Outputs.{CountsOutcome, Outputs, balances_in, day_report_with, export_with};
@@ -20,13 +20,13 @@ use crate::load_change::LoadChange;
 use crate::output_fault::OutputFault;
 use crate::run_change::RunChange;
 use crate::store_fault::StoreFault;
-use hh_calc::AccountRow;
 use hh_devices::Sink;
 use hh_names::{Account, Counterparties, FileName, PartyId, PeriodNumber, Reference, UnitId};
 use hh_num::Pence;
-use hh_rows::{ContractRow, FileKind, PartyRegistration, Row, Settings, UnitRegistration};
-use hh_rules::Register;
-use hh_runs::{RunKey, RunKind, Summary};
+use hh_states::{
+    AccountRow, ContractRow, FileKind, PartyRegistration, Register, Row, RunKey, RunKind, Settings,
+    Summary, UnitRegistration,
+};
 use hh_time::{Day, SettlementDate};
 
 /// The tables of an office. Neither a call that reads nor a call that fails changes them. `Memory` is

@@ -65,15 +65,13 @@ pub struct Course {
 impl Course {
     /// What comes of the requests if nothing fails. That the answers are right is tested through `settle`.
     pub fn new(alloc: Global) -> Result<Course, Trouble> {
-        let settings = settings().ok_or(Trouble::Word)?;
-        let requests = all_requests(alloc)?;
-        let answers = answers_in_memory(alloc, settings, &requests)?;
         let mut course = Course {
-            settings,
-            requests,
-            answers,
+            settings: settings().ok_or(Trouble::Word)?,
+            requests: all_requests(alloc)?,
+            answers: Vec::new(alloc),
             rows: Vec::new(alloc),
         };
+        course.answers = answers_in_memory(alloc, course.settings, &course.requests)?;
         for count in 0..=REQUESTS {
             course.go_to(alloc, count)?;
         }

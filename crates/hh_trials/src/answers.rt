@@ -96,10 +96,11 @@ fn request_answer(alloc: Global, bytes: &[u8]) -> Result<String, AllocError> {
     let piece = (mixed_bytes(0, bytes) % MOST_PIECE) as usize;
     let read = read_in_pieces(alloc, bytes, bytes.len());
     let again = read_in_pieces(alloc, bytes, piece);
-    if format!(in alloc; "{read:?}")? != format!(in alloc; "{again:?}")? {
+    let (first, second) = (told(alloc, &read)?, told(alloc, &again)?);
+    if first.as_str() != second.as_str() {
         return differs(alloc);
     }
-    match read {
+    match &read {
         Ok(Incoming::Closed) => format!(in alloc; "closed"),
         Ok(Incoming::Asked(_)) => format!(in alloc; "answered"),
         Err(WireFault::Refused(refused)) => {
@@ -107,6 +108,11 @@ fn request_answer(alloc: Global, bytes: &[u8]) -> Result<String, AllocError> {
         }
         Err(WireFault::Read) => format!(in alloc; "unread"),
     }
+}
+
+/// All that was read of a client, as a text.
+fn told(alloc: Global, read: &Result<Incoming, WireFault>) -> Result<String, AllocError> {
+    format!(in alloc; "{read:?}")
 }
 
 /// What is read from a client that sends `piece` of its bytes at a time.

@@ -1,19 +1,16 @@
 //! Measurements and trials, each by a command of its own.
 //!
-//! - `settle TIMES` settles a period of the market's size TIMES times.
-//! - `read KIND FILE TIMES` reads a file of a kind TIMES times.
-//! - `load KIND FILE ..` reads files and applies their rows to a new register.
+//! - `settle TIMES` settles a period of the market's size, `read KIND FILE TIMES` reads a file of a kind, and
+//!   `load KIND FILE ..` reads files and applies their rows to a new register.
 //! - `office DB SCRIPT` runs the lines of a script over the office in a database file. With
 //!   `OPERATOR-KEY LEAD-MINUTES` after that it makes the office first.
 //! - `answer KIND` reads damaged inputs from standard input, each twice, and writes their answers. KIND is
-//!   the word of a kind of file, `request`, `script`, or `database MOMENT FILE ..`. Then the office in each
-//!   database gets the calls of the files, each at its moment. A file contains an HTTP request, or a line
-//!   of a script that asks for a report.
+//!   the word of a kind of file, `request`, `script`, or `database MOMENT FILE ..`: then the office in each
+//!   database gets the calls of the files, each an HTTP request or a line of a script that asks for a report.
 //! - `log DB MOMENT FILE ..` writes the log that is left beside a database file after such calls.
-//! - `refuse WAY HOW STORE MOMENT FILE ..` makes an office and gives it such calls. Each growth of memory
-//!   that a call makes is refused in turn, and what comes of the call is checked. WAY is `handle`, `serve`
-//!   or `together`. HOW is `once` if one growth is refused, or `on` if each later one is refused too. STORE
-//!   is `memory`, or the path of a database file that is to be made.
+//! - `refuse WAY HOW STORE MOMENT FILE ..` makes an office and gives it such calls, with each growth of
+//!   memory refused in turn. WAY is `handle`, `serve` or `together`. HOW is `once`, or `on` if each later
+//!   growth is refused too. STORE is `memory`, or the path of a database file that is to be made.
 //!
 //! What was done is written to standard output, and the nanoseconds that it took, or what is wrong, to
 //! standard error. Memory is refused by a library that is loaded before, `tests/failing_malloc.c`.
@@ -34,19 +31,10 @@ mod sweep;
 mod ways;
 mod words;
 
-use std::env;
-use std::io::ErrorKind;
-pub use stop::{TrialStop, tell};
-use words::run_words;
+pub use stop::{TrialStop, Wrong, tell};
 
 /// Does what the program's words ask for.
 pub fn run(rt: &HostRuntime) -> Result<(), TrialStop> {
-    match env::args(rt) {
-        Ok(words) => {
-            let words: Vec<String> = words.collect(rt.alloc())?;
-            run_words(rt, &words)
-        }
-        Err(error) if error.kind() == ErrorKind::OutOfMemory => Err(TrialStop::no_memory()),
-        Err(_) => Err(TrialStop::Words),
-    }
+    let words: Vec<String> = std::env::args(rt)?.collect(rt.alloc())?;
+    words::run_words(rt, &words)
 }

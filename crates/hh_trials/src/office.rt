@@ -2,15 +2,16 @@
 
 use crate::measures::Watch;
 use crate::stop::TrialStop;
-use hh_database::{AfterUse, DatabaseStop, run_in_database, run_in_new_database};
 use hh_devices::{Sink, StreamSink};
 use hh_host::{Host, RuntimeHost};
 use hh_inputs::InputFault;
 use hh_names::Refusal;
+use hh_office::Office;
 use hh_rows::Settings;
 use hh_script::{ScriptFault, ScriptLine, read_script};
-use hh_session::{MOST_SCRIPT_BYTES, NoNotes};
-use hh_sqlstore::Rising;
+use hh_session::{MOST_SCRIPT_BYTES, NoNotes, run_lines};
+use hh_sqlstore::{Rising, SqlTables};
+use hh_time::london;
 use sqlite::{Connection, FileStore, Options};
 use sqlite_disk::{Disk, Files};
 use sqlite_std_file::{File, OpenError, Unknown};
@@ -96,20 +97,19 @@ fn run_over<S: Rising, H: Host, O: Sink>(
     lines: &[ScriptLine<'_>],
     out: &mut O,
 ) -> (Result<(), TrialStop>, Connection<S>) {
-    let notes = &mut NoNotes;
-    let ran = match settings {
-        Some(settings) => {
-            run_in_new_database(alloc, connection, settings, host, lines, false, notes, out)
-        }
-        None => run_in_database(alloc, connection, host, lines, false, notes, out),
+    let tables = match settings {
+        Some(settings) => SqlTables::create(alloc, connection, settings),
+        None => SqlTables::adopt(alloc, connection),
     };
-    match ran {
-        Ok(AfterUse { connection, .. }) => (Ok(()), connection),
-        Err((DatabaseStop::Refused(fault), AfterUse { connection, .. })) => {
-            (Err(TrialStop::from(fault)), connection)
+    match tables {
+        Ok(tables) => {
+            let mut office = Office::new(alloc, tables, london());
+            let ran = match run_lines(alloc, &mut office, host, lines, false, &mut NoNotes, out) {
+                Ok(()) => Ok(()),
+                Err(_) => Err(TrialStop::Output),
+            };
+            (ran, office.into_tables().into_connection())
         }
-        Err((DatabaseStop::Early(_), AfterUse { connection, .. })) => {
-            (Err(TrialStop::Output), connection)
-        }
+        Err((fault, connection)) => (Err(TrialStop::from(fault)), connection),
     }
 }

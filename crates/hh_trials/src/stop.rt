@@ -27,10 +27,22 @@ pub enum TrialStop {
     Output,
     /// A call was not as it should be, counted from 1, when a growth was refused, counted from 1.
     Broken {
-        what: &'static str,
+        what: Wrong,
         call: usize,
         growth: u32,
     },
+}
+
+/// What was not as it should be: what came of a call, or which tables are left.
+#[derive(Clone, Copy, Debug)]
+pub enum Wrong {
+    MemoryRefusedToTheTwin,
+    MemoryRefusedWithoutEnd,
+    OtherwiseWithAmpleMemory,
+    RefusalToldThoughNoneWas,
+    AnsweredButTablesNotAfterIt,
+    WrongAnswer,
+    RefusedButTablesNotBeforeIt,
 }
 
 impl TrialStop {
@@ -110,12 +122,11 @@ pub fn tell<R: Eprint>(rt: &R, stop: TrialStop) -> u8
         TrialStop::Input => eprintln!(rt; "fault input"),
         TrialStop::Output => eprintln!(rt; "fault output"),
         TrialStop::Broken { what, call, growth } => {
-            eprintln!(rt; "call {call} growth {growth}: {what}\nfault promise")
+            eprintln!(rt; "call {call} growth {growth}: {what:?}\nfault promise")
         }
     };
-    if matches!(stop, TrialStop::Words) {
-        2
-    } else {
-        1
+    match stop {
+        TrialStop::Words => 2,
+        _ => 1,
     }
 }

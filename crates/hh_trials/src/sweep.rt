@@ -2,7 +2,7 @@
 
 use crate::calls::Call;
 use crate::contents::contents_of;
-use crate::stop::TrialStop;
+use crate::stop::{TrialStop, Wrong};
 use crate::stores::{InMemory, Store};
 use crate::ways::{Attempt, Way, tried};
 use hh_devices::{StreamSink, write_whole};
@@ -113,7 +113,7 @@ impl<S: Store> Trial<'_, S> {
         let came = came?;
         let after = contents_of(self.rt.alloc(), &mut twin, &self.plan.calls)?;
         if came.refused || came.tells_refusal() {
-            return Err(wrong("memory was refused to the twin", place, 0));
+            return Err(wrong(Wrong::MemoryRefusedToTheTwin, place, 0));
         }
         let Attempt { answers, .. } = came;
         let right = Right {
@@ -148,7 +148,7 @@ impl<S: Store> Trial<'_, S> {
             }
             growth = growth.saturating_add(if growth < EACH { 1 } else { STEP });
         }
-        Err(wrong("memory was refused without an end", place, growth))
+        Err(wrong(Wrong::MemoryRefusedWithoutEnd, place, growth))
     }
 
     /// The outcome of the call at a place, with this growth refused.
@@ -190,7 +190,7 @@ impl<S: Store> Trial<'_, S> {
         self.stamp = None;
         match self.outcome(place, 0, right)? {
             Outcome::Answered => Ok(()),
-            _ => Err(wrong("with ample memory it went otherwise", place, 0)),
+            _ => Err(wrong(Wrong::OtherwiseWithAmpleMemory, place, 0)),
         }
     }
 
@@ -248,7 +248,7 @@ fn print_answers(rt: &HostRuntime, head: &str, answers: &[Vec<u8>]) -> Result<()
 }
 
 /// Something was not as it should be.
-fn wrong(what: &'static str, place: usize, growth: u32) -> TrialStop {
+fn wrong(what: Wrong, place: usize, growth: u32) -> TrialStop {
     TrialStop::Broken {
         what,
         call: place.saturating_add(1),
@@ -257,22 +257,17 @@ fn wrong(what: &'static str, place: usize, growth: u32) -> TrialStop {
 }
 
 /// The outcome of a call that left these contents, or what is wrong with it.
-fn outcome_of(
-    way: Way,
-    came: &Attempt,
-    right: &Right,
-    contents: &[u8],
-) -> Result<Outcome, &'static str> {
+fn outcome_of(way: Way, came: &Attempt, right: &Right, contents: &[u8]) -> Result<Outcome, Wrong> {
     let is_before = contents == right.before.as_slice();
     let is_after = contents == right.after.as_slice();
     let is_partly_right = came.is_partly_right(&right.answers);
     let is_right_or_refused = came.is_right_or_refused(&right.answers);
     if !came.refused && came.tells_refusal() {
-        return Err("refused memory is told of, but none was refused");
+        return Err(Wrong::RefusalToldThoughNoneWas);
     }
     if came.answers == right.answers {
         return match (is_after, came.refused, is_before) {
-            (false, _, _) => Err("it was answered, but the tables are not those after it"),
+            (false, _, _) => Err(Wrong::AnsweredButTablesNotAfterIt),
             (true, false, _) => Ok(Outcome::Answered),
             (true, true, true) => Ok(Outcome::DoneWithout),
             (true, true, false) => Ok(Outcome::Moved),
@@ -288,10 +283,10 @@ fn outcome_of(
         return Ok(Outcome::Moved);
     }
     if !came.answers.is_empty() && !is_right_or_refused {
-        return Err("an answer is wrong");
+        return Err(Wrong::WrongAnswer);
     }
     if is_before && (!is_partly_right || is_after) {
         return Ok(Outcome::Refused);
     }
-    Err("memory was refused, but the tables are not those before it")
+    Err(Wrong::RefusedButTablesNotBeforeIt)
 }

@@ -10,6 +10,7 @@ mod reports;
 
 pub use connections::{MOST_CONNECTIONS, read_count, read_port};
 pub use cut_text::CutText;
+pub use hh_requests::Report;
 pub use keys::read_shown_key;
 pub use moments::read_moment;
 pub use paths::{read_path, read_path_name};

@@ -4,10 +4,10 @@ use Rattle.sqlite_trees.specs.declared.store.Store.{Ghosts}
 use Rattle.sqlite.specs.Held.{Held, state}
 use Rattle.sqlite.specs.State.{HasCleanDisk}
 use Rattle.hh_states.specs.Content.{Content}
-use Rattle.hh_sqlstore.specs.Holds.{TreesHold}
 use Rattle.hh_host.specs.Views.{HostView}
-use Rattle.hh_errands.specs.Errands.{ErrandStep, Serve}
-use Rattle.hh_errands.specs.declared.errand.ErrandStop.{ErrandStop}
+use Rattle.hh_desk.specs.Errands.{ErrandStep, Serve}
+use Rattle.hh_desk.specs.declared.errand.ErrandStop.{ErrandStop}
+use Rattle.hh_sqlstore.specs.Holds.{TreesHold}
 use Rattle.hh_kept_office.specs.Crashes.{HoldsWhatCounts}
 
 -- for tables that were open, if the disk has returned what was written

@@ -5,13 +5,13 @@ use Rattle.hh_states.specs.Content.{Content}
 use Rattle.hh_store.specs.StoreFaults.{store_fault}
 use Rattle.hh_host.specs.Views.{HostView}
 use Rattle.hh_script.specs.Steps.{Step}
+use Rattle.hh_session.specs.Course.{AllDone}
+use Rattle.hh_kept_office.specs.declared.stop.DatabaseStop.{DatabaseStop}
+use Rattle.hh_kept_office.specs.declared.stop.DatabaseStop.TheVariants as database
+use Rattle.hh_kept_office.specs.Running.{EarlyOver, WritesOver}
+use Rattle.hh_session.specs.Script.{IsScript, IsUnread}
 use Rattle.hh_session.specs.declared.script.ScriptStop.{ScriptStop}
 use Rattle.hh_session.specs.declared.script.ScriptStop.TheVariants as script
-use Rattle.hh_session.specs.Script.{IsScript, IsUnread}
-use Rattle.hh_session.specs.Course.{AllDone}
-use Rattle.hh_database.specs.declared.stop.DatabaseStop.{DatabaseStop}
-use Rattle.hh_database.specs.declared.stop.DatabaseStop.TheVariants as database
-use Rattle.hh_database.specs.Running.{EarlyOver, WritesOver}
 use Rattle.hh_kept_office.specs.Places.{Connected, LeavesConnected}
 
 -- why a script is not run over a database, or not to its end

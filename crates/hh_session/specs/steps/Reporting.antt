@@ -4,8 +4,8 @@ use Rattle.std.specs.Io.KnownBytes.{Appends}
 use Rattle.hh_devices.specs.DeviceChanges.{DeviceChange}
 use Rattle.hh_devices.specs.Devices.{AppendsFront}
 use Rattle.hh_states.specs.States.{State}
-use Rattle.hh_office.specs.Promises.{Represents}
-use Rattle.hh_office.specs.Views.{OfficeView, midnight_of}
+use Rattle.hh_desk.specs.Promises.{Represents}
+use Rattle.hh_desk.specs.Views.{OfficeView, midnight_of}
 use Rattle.hh_script.specs.Reports.{ReportStep}
 use Rattle.hh_session.specs.Reporting.{ReportDoes}
 

@@ -4,11 +4,10 @@ use Rattle.std.specs.Io.KnownBytes.{Appends}
 use Rattle.hh_devices.specs.DeviceChanges.{DeviceChange}
 use Rattle.hh_devices.specs.Devices.{AppendsFront}
 use Rattle.hh_states.specs.States.{State}
-use Rattle.hh_office.specs.Promises.{Represents}
-use Rattle.hh_office.specs.Views.{OfficeView, midnight_of}
+use Rattle.hh_desk.specs.Promises.{Represents, RepresentsNow}
+use Rattle.hh_desk.specs.Views.{OfficeView, midnight_of}
 use Rattle.hh_host.specs.Views.{HostView}
 use Rattle.hh_script.specs.declared.serve.ServeLine.{ServeLine}
-use Rattle.hh_desk.specs.Doing.{RepresentsNow}
 use Rattle.hh_session.specs.Serving.{ServeDoes, awaits_none}
 
 -- `device` is the change of an output. `host` is what a host may show about files and ports. The store may have failed only if `fails`

@@ -8,7 +8,7 @@ use Rattle.hh_rows.specs.declared.rows.Row.TheVariants as row
 use Rattle.hh_rules.specs.Positions.{position_key, position_key_cmp}
 use Rattle.hh_rules.specs.declared.positions.Position.{Position}
 use Rattle.hh_rules.specs.declared.positions.PositionKey.{PositionKey}
-use Rattle.hh_beside.specs.PositionLaws.{AgreesOnPositions, ArePartOf}
+use Rattle.hh_kept_rows.specs.PositionLaws.{AgreesOnPositions, ArePartOf}
 
 -- the key of the position of a contract's seller; a row of another kind has none
 abbrev pub seller_of : Row → Option PositionKey

@@ -4,13 +4,13 @@ use Rattle.sqlite.specs.Effect.{Database}
 use Rattle.sqlite.specs.State.{HasCleanDisk, State}
 use Rattle.sqlite_trees.specs.Tree.{Trees}
 use Rattle.hh_states.specs.Changes.{LoadChangeView, RunChangeView}
-use Rattle.hh_beside.specs.Keeping.{beside_with_load, beside_with_run}
-use Rattle.hh_beside.specs.Laws.{AreAlike}
+use Rattle.hh_sqlparts.specs.Keeping.{beside_with_load, beside_with_run}
+use Rattle.hh_sqlparts.specs.Laws.{AreAlike}
 use Rattle.hh_sqlrows.specs.Contents.{beside_in, registered_of}
 use Rattle.hh_sqlrows.specs.Office.{IsOffice}
 use Rattle.hh_sqlchanges.specs.Writes.{StoresLoad, StoresRun}
 use Rattle.hh_sqlparts.specs.Readings.{OfCommitted, SelectsOnly}
-use Rattle.hh_sqlstore.specs.Leaving.{MayStand}
+use Rattle.hh_sqlschema.specs.Leaving.{MayStand}
 
 -- The connection was open and is open. Everything is committed. If the database was an office's and everything was committed, it was
 -- changed as `Change` says.

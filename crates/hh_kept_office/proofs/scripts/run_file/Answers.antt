@@ -1,7 +1,7 @@
 use Rattle.std.proofs.Common.{ap, inl, refl}
 use Rattle.hh_devices.specs.DeviceChanges.{change}
-use Rattle.hh_session.specs.declared.script.ScriptStop.TheVariants as script
 use Rattle.hh_sqlstore.specs.Stores.{content_in}
+use Rattle.hh_session.specs.declared.script.ScriptStop.TheVariants as script
 use Rattle.hh_kept_office.specs.Places.{shown_by}
 use Rattle.hh_kept_office.proofs.ScriptLaws.{runs_file}
 use Rattle.hh_kept_office.proofs.scripts.run_file.Goals as goal

@@ -1,5 +1,5 @@
 use Rattle.std.proofs.Common.{◌≡◌, map, take}
-use Rattle.hh_beside.specs.Beside.{credit_row}
+use Rattle.hh_states.specs.Beside.{credit_row}
 use Rattle.hh_kept_rows.proofs.same_since.credit_rows.Given as goal
 
 -- the credits so far

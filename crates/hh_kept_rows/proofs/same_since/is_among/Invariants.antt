@@ -1,5 +1,5 @@
 use Rattle.std.proofs.Common.{◌≡◌, false, take}
-use Rattle.hh_beside.specs.Beside.{is_among}
+use Rattle.hh_states.specs.Beside.{is_among}
 use Rattle.hh_kept_rows.proofs.same_since.is_among.Given as goal
 
 -- it is not among those so far

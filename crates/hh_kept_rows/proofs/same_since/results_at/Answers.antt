@@ -8,7 +8,7 @@ use Rattle.std.proofs.lemmas.List.Sorted.{IsNonDecreasingBy-drop, IsPartitionPoi
 use Rattle.hh_tables.proofs.MergeLaws.{from_true}
 use Rattle.hh_tables.proofs.OrderLaws.{below_partitions, up_to_partitions}
 use Rattle.hh_states.specs.Content.{result_key_cmp}
-use Rattle.hh_beside.specs.Beside.{is_result_of}
+use Rattle.hh_states.specs.Beside.{is_result_of}
 use Rattle.hh_kept_rows.proofs.RunRangeLaws.{result_order, results_between, results_rise}
 use Rattle.hh_kept_rows.proofs.same_since.results_at.Goals as goal
 

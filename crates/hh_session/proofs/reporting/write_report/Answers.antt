@@ -1,12 +1,11 @@
 use Rattle.std.proofs.Common.{Err, subst, sym}
 use Rattle.hh_devices.specs.DeviceChanges.{change}
 use Rattle.hh_states.specs.States.{State}
-use Rattle.hh_office.specs.Promises.{Represents}
-use Rattle.hh_office.specs.Refusals.{CountsReportStop, CountsStoreFault}
-use Rattle.hh_office.specs.Reports.{ReportsAs, report_for}
-use Rattle.hh_office.specs.Views.{midnight_of}
+use Rattle.hh_desk.specs.Promises.{Represents}
+use Rattle.hh_desk.specs.Refusals.{CountsMore, CountsReportStop, CountsStoreFault}
+use Rattle.hh_desk.specs.Reports.{ReportsAs, report_for}
+use Rattle.hh_desk.specs.Views.{midnight_of}
 use Rattle.hh_script.specs.Reports.{report_of}
-use Rattle.hh_desk.specs.GivingUp.{CountsMore}
 use Rattle.hh_session.specs.steps.Reporting.{RunsReport}
 use Rattle.hh_session.proofs.CourseLaws.{OnErr-map, ok_both}
 use Rattle.hh_session.proofs.GivingUpLaws.{report_up}

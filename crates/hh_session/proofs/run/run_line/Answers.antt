@@ -1,11 +1,11 @@
 use Rattle.std.proofs.Common.{subst, sym}
 use Rattle.std.specs.Prelude.{IfOk, OnErr}
 use Rattle.hh_devices.specs.DeviceChanges.{change}
+use Rattle.hh_desk.specs.Refusals.{CountsMore}
 use Rattle.hh_script.specs.Reports.{report_of}
 use Rattle.hh_script.specs.Steps.{load_of, run_of, step_of}
-use Rattle.hh_office.specs.Views.{midnight_of}
+use Rattle.hh_desk.specs.Views.{midnight_of}
 use Rattle.hh_desk.specs.Doing.{LoadDoes, RunDoes}
-use Rattle.hh_desk.specs.GivingUp.{CountsMore}
 use Rattle.hh_session.specs.Came.{was_done}
 use Rattle.hh_session.specs.steps.Course.{RunsStep, StopsStep}
 use Rattle.hh_session.proofs.CourseLaws.{IfOk-map, OnErr-map, line_cut, line_done, load_gives_up, ok_both, run_gives_up}

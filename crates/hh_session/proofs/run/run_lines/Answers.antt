@@ -2,11 +2,11 @@ use Rattle.std.proofs.Common.{◌+◌, map, take, ap, ◌∙◌, subst, sym}
 use Rattle.std.proofs.lemmas.Bool.{true≢false}
 use Rattle.std.proofs.lemmas.List.{take_all}
 use Rattle.hh_devices.specs.DeviceChanges.{change}
+use Rattle.hh_desk.specs.Refusals.{CountsMore}
 use Rattle.hh_script.specs.Steps.{step_of}
 use Rattle.hh_session.specs.Course.{AllDone, EndsEarly, RunsScript}
 use Rattle.hh_session.specs.Came.{was_done}
 use Rattle.hh_session.specs.declared.run.LinesStop.TheVariants.{Line, Output}
-use Rattle.hh_desk.specs.GivingUp.{CountsMore}
 use Rattle.hh_session.proofs.CourseLaws.{early_conserves, ended_by, ended_early, first_steps, line_heard, line_heard_up, line_stops, next_step, script_conserves, script_stops, up_more}
 use Rattle.hh_session.proofs.run.run_lines.Goals as goal
 use Rattle.hh_session.proofs.run.run_lines.Goals.{else-strict-via-else-strict, else-strict-via-then-strict+else-not-was_done}

@@ -1,10 +1,9 @@
 use Rattle.std.proofs.Common.{◌≡◌, map, take}
 use Rattle.hh_devices.specs.DeviceChanges.{change}
+use Rattle.hh_desk.specs.Refusals.{CountsUp, HasRefused}
 use Rattle.hh_script.specs.Steps.{step_of}
-use Rattle.hh_office.specs.Views.{IsSure}
-use Rattle.hh_http_serve.specs.Serves.{CountsUp}
+use Rattle.hh_desk.specs.Views.{IsSure}
 use Rattle.hh_session.specs.Course.{AllDone, RunsScript}
-use Rattle.hh_desk.specs.GivingUp.{HasRefused}
 use Rattle.hh_session.proofs.run.run_lines.Given as goal
 
 -- the lines so far were run, and all were done if they are strict

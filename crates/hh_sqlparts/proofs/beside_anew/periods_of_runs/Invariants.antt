@@ -1,5 +1,5 @@
 use Rattle.std.proofs.Common.{◌≡◌, take}
-use Rattle.hh_beside.specs.Keeping.{periods_of_runs}
+use Rattle.hh_kept_rows.specs.Keeping.{periods_of_runs}
 use Rattle.hh_sqlparts.proofs.beside_anew.periods_of_runs.Given as goal
 
 -- the Settlement Periods of the runs so far

@@ -1,5 +1,5 @@
 use Rattle.std.proofs.Common.{◌≡◌, [], take}
-use Rattle.hh_beside.specs.Keeping.{positions_of}
+use Rattle.hh_kept_rows.specs.Keeping.{positions_of}
 use Rattle.hh_sqlparts.proofs.beside_anew.positions_of.Given as goal
 
 -- the positions by the contracts so far

@@ -3,7 +3,7 @@ use Rattle.sqlite.specs.Held.{state}
 use Rattle.hh_sqlrows.specs.Contents.{registered_of}
 use Rattle.hh_sqlrows.specs.Forms.{rows_under_keys}
 use Rattle.hh_sqlrows.specs.OfficeTables.{runs}
-use Rattle.hh_beside.specs.Keeping.{periods_of_runs, positions_by}
+use Rattle.hh_kept_rows.specs.Keeping.{periods_of_runs, positions_by}
 use Rattle.hh_sqlparts.specs.BesideAnew.{HasNothingBeside}
 use Rattle.hh_sqlparts.proofs.ReadingLaws.{found_first, found_last, reading_then}
 use Rattle.hh_sqlparts.proofs.beside_anew.select_beside_anew.Goals as goal

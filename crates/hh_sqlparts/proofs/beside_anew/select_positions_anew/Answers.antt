@@ -1,7 +1,7 @@
 use Rattle.std.proofs.Common.{◌∙◌}
 use Rattle.sqlite.specs.Held.{state}
 use Rattle.hh_sqlrows.specs.Contents.{registered_of}
-use Rattle.hh_beside.specs.Keeping.{positions_by}
+use Rattle.hh_kept_rows.specs.Keeping.{positions_by}
 use Rattle.hh_sqlparts.proofs.beside_anew.select_positions_anew.Goals as goal
 
 pub returns-clause-value : goal.returns-clause-value

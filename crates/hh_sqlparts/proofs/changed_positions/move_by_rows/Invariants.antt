@@ -1,5 +1,5 @@
 use Rattle.std.proofs.Common.{◌≡◌, drop}
-use Rattle.hh_beside.specs.Keeping.{positions_with}
+use Rattle.hh_kept_rows.specs.Keeping.{positions_with}
 use Rattle.hh_sqlparts.proofs.changed_positions.move_by_rows.Given as goal
 
 -- the rows that are left make of the positions now what all rows make of the positions before

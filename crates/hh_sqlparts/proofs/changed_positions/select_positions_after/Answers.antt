@@ -2,7 +2,7 @@ use Rattle.std.proofs.Common.{◌∙◌}
 use Rattle.sqlite.specs.Effect.{Database}
 use Rattle.sqlite.specs.Held.{state}
 use Rattle.hh_rows.specs.Keys.{contract_key_cmp}
-use Rattle.hh_beside.proofs.PositionKeys.{position_key_total}
+use Rattle.hh_kept_rows.proofs.PositionKeys.{position_key_total}
 use Rattle.hh_sqlrows.specs.Forms.{rows_under_keys}
 use Rattle.hh_sqlrows.specs.OfficeTables as tables
 use Rattle.hh_sqlparts.specs.steps.Moved.{ServesPositions}

@@ -4,7 +4,7 @@ use Rattle.sqlite.specs.Effect.{Database}
 use Rattle.sqlite.specs.Held.{state}
 use Rattle.hh_sqlrows.specs.Office.{IsOffice}
 use Rattle.hh_sqlchanges.specs.Writes.{WritesBesideAnew}
-use Rattle.hh_sqlstore.specs.Leaving.{KeepsBeside}
+use Rattle.hh_sqlschema.specs.Leaving.{KeepsBeside}
 use Rattle.hh_sqlstore.proofs.BesideLaws.{kept_beside}
 use Rattle.hh_sqlstore.proofs.KeepingLaws.{may_keep_made}
 use Rattle.hh_sqlstore.proofs.keeping.keep_positions.Goals as goal

@@ -1,6 +1,6 @@
 use Rattle.sqlite.specs.Held.{state}
 use Rattle.hh_states.specs.DaySettlement.{periods_on}
-use Rattle.hh_kept_rows.specs.DayBeside.{IsBesideOf}
+use Rattle.hh_sqlparts.specs.DayBeside.{IsBesideOf}
 use Rattle.hh_sqlrows.specs.Contents.{beside_in, content_of}
 use Rattle.hh_sqlparts.proofs.ReadingLaws.{found_first, found_last}
 use Rattle.hh_sqlstore.proofs.ReadLaws.{all_on_date}

@@ -1,7 +1,7 @@
 use Rattle.std.proofs.lemmas.Result.{IfOk-weaker}
 use Rattle.sqlite.specs.Held.{state}
 use Rattle.hh_rules.specs.RegisterView.{ServesFor}
-use Rattle.hh_kept_rows.specs.Parts.{whole_of}
+use Rattle.hh_sqlparts.specs.Parts.{whole_of}
 use Rattle.hh_sqlrows.specs.Contents.{registered_of}
 use Rattle.hh_sqlstore.proofs.parts.register_of.Goals as goal
 

@@ -1,7 +1,7 @@
 use Rattle.std.proofs.Common.{◌≡◌, rules, sym, ap, subst, ◌∙◌, List, [], ◌∷◌, refl, map, true, Option, Some, None}
 use Rattle.std.specs.Prelude.{IfSome}
 use Rattle.hh_calc.specs.Terms.{Settled, settled_as}
-use Rattle.hh_beside.specs.Beside.{credit_row}
+use Rattle.hh_states.specs.Beside.{credit_row}
 use Rattle.hh_kept_rows.specs.DayBeside.{IsSameAs, IsSameSince}
 use Rattle.hh_kept_rows.proofs.day_beside.DayBeside.same_since.Goals as goal
 

@@ -6,8 +6,8 @@ use Rattle.hh_reports.specs.Nets.{sum_for}
 use Rattle.hh_reports.specs.Output.{CountsFault}
 use Rattle.hh_reports.specs.Writers.{HasBalances}
 use Rattle.hh_rows.specs.declared.rows.PartyRegistration.{PartyRegistration}
-use Rattle.hh_store.specs.Outputs.{Outputs}
-use Rattle.hh_store.specs.StoreFaults.{output_fault}
+use Rattle.hh_keyed_rows.specs.Outputs.{Outputs}
+use Rattle.hh_keyed_rows.specs.StoreFaults.{output_fault}
 use Rattle.hh_sqlrows.proofs.AnswerLaws.{counted_alike, takes_stopped}
 use Rattle.hh_sqlrows.proofs.ManyLaws.{map_last}
 use Rattle.hh_sqlrows.proofs.report_takers.BalancesWriterRowTakerPartyIdPartyRegistration.take_row.Goals as goal

@@ -6,8 +6,8 @@ use Rattle.hh_devices.specs.Devices.{AppendsFront}
 use Rattle.hh_reports.specs.DayReport.{day_report_begun}
 use Rattle.hh_reports.specs.Output.{CountsFault}
 use Rattle.hh_reports.specs.Writers.{HasDay}
-use Rattle.hh_store.specs.Outputs.{Outputs}
-use Rattle.hh_store.specs.StoreFaults.{output_fault}
+use Rattle.hh_keyed_rows.specs.Outputs.{Outputs}
+use Rattle.hh_keyed_rows.specs.StoreFaults.{output_fault}
 use Rattle.hh_sqlrows.specs.Contents.{period_row}
 use Rattle.hh_sqlrows.proofs.AnswerLaws.{counted_alike, takes_stopped}
 use Rattle.hh_sqlrows.proofs.ManyLaws.{map_last}

@@ -1,6 +1,6 @@
 use Rattle.std.proofs.Common.{IsTrue}
 use Rattle.sqlite.specs.Held.{state}
-use Rattle.hh_sqlstore.specs.steps.Adopted.{IsAdoptedFrom}
+use Rattle.hh_sqlschema.specs.Adopted.{IsAdoptedFrom}
 use Rattle.hh_sqlstore.specs.steps.Kept.{IsMarked}
 use Rattle.hh_sqlstore.proofs.AdoptLaws.{committed_taken, content_before, held_before, holds_after, keeps_held, mark_committed}
 use Rattle.hh_sqlstore.proofs.ContentLaws.{clean_while_open}

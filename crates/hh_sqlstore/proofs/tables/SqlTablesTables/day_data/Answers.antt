@@ -3,7 +3,7 @@ use Rattle.sqlite.specs.Held.{state}
 use Rattle.hh_rows.specs.declared.settings.Settings.{Settings}
 use Rattle.hh_states.specs.DaySettlement.{periods_on}
 use Rattle.hh_store.specs.DayReads.{IsDayData}
-use Rattle.hh_beside.specs.Beside.{agrees}
+use Rattle.hh_states.specs.Beside.{agrees}
 use Rattle.hh_sqlrows.specs.Contents.{beside_in, content_of, registered_of}
 use Rattle.hh_sqlstore.specs.Stores.{Stored, content_in}
 use Rattle.hh_sqlstore.proofs.BesideLaws.{step_is}

@@ -1,2 +1,0 @@
-pub mod OverLaws
-pub mod RunningLaws

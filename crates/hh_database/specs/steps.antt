@@ -1,2 +1,0 @@
--- Definitions that only contracts of private functions use. No public contract reaches them, not even through other definitions.
-pub mod Running

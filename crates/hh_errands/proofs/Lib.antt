@@ -1,4 +1,0 @@
-mod CrashLaws
-pub mod EndLaws
-mod ErrandLaws
-mod ReportLaws

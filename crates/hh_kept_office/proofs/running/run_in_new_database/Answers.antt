@@ -1,0 +1,42 @@
+use Rattle.std.proofs.Common.{map, subst}
+use Rattle.sqlite.specs.Held.{state}
+use Rattle.hh_devices.specs.DeviceChanges.{change}
+use Rattle.hh_sqlstore.specs.Stores.{content_in}
+use Rattle.hh_desk.specs.Refusals.{CountsMore}
+use Rattle.hh_script.specs.Steps.{step_of}
+use Rattle.hh_session.specs.Course.{AllDone}
+use Rattle.hh_kept_office.specs.Running.{EarlyOver, WritesOver}
+use Rattle.hh_kept_office.proofs.RunningLaws.{early_new, err_by, if_early, ok_by, writes_new}
+use Rattle.hh_kept_office.proofs.running.run_in_new_database.Goals as goal
+
+pub returns-in-Ok-clause-done : goal.returns-in-Ok-clause-done
+returns-in-Ok-clause-done g c =
+    let host = g.H.Host.view c.args.host.now in
+    let device = change g.O.Sink.taken g.O.Sink.failures c.args.out.now c.run_over_database.new.out in
+    let steps = map step_of c.args.lines.now in
+    let old = content_in g.S.Store c.in-Ok.tables in
+    ok_by _ c.run_over_database.result (λ after writes sure up.
+    let db = (state g.S.Store after.connection).committed in
+    writes_new host device db after.refusals c.args.settings c.are_settings.ensures old (c.in-Ok.ensures.represents (sure up)) (AllDone c.args.strict) steps
+    (subst (λ n. WritesOver host (CountsMore n after.refusals) device db steps old (AllDone c.args.strict)) c.in-Ok.ensures.unrefused (writes up)))
+    c.run_over_database.ensures.done c.run_over_database.ensures.sure
+
+pub returns-in-Ok-clause-cut : goal.returns-in-Ok-clause-cut
+returns-in-Ok-clause-cut g c =
+    let host = g.H.Host.view c.args.host.now in
+    let device = change g.O.Sink.taken g.O.Sink.failures c.args.out.now c.run_over_database.new.out in
+    let steps = map step_of c.args.lines.now in
+    let old = content_in g.S.Store c.in-Ok.tables in
+    err_by _ c.run_over_database.result (λ e cuts sure. if_early e.0 _ _ (λ why cut up.
+    let db = (state g.S.Store e.1.connection).committed in
+    early_new host device db e.1.refusals c.args.settings c.are_settings.ensures old (c.in-Ok.ensures.represents (sure up)) c.args.strict steps why
+    (subst (λ n. EarlyOver host (CountsMore n e.1.refusals) device db c.args.strict steps old why) c.in-Ok.ensures.unrefused (cut up))) cuts)
+    c.run_over_database.ensures.cut c.run_over_database.ensures.sure
+
+pub returns-in-Ok-clause-untouched : goal.returns-in-Ok-clause-untouched
+returns-in-Ok-clause-untouched g c =
+    err_by _ c.run_over_database.result (λ e run sure refused. absurd (run refused)) c.run_over_database.ensures.run c.run_over_database.ensures.sure
+
+pub returns-in-Ok-clause-undone : goal.returns-in-Ok-clause-undone
+returns-in-Ok-clause-undone g c =
+    err_by _ c.run_over_database.result (λ e run sure refused. absurd (run refused)) c.run_over_database.ensures.run c.run_over_database.ensures.sure

@@ -1,0 +1,2 @@
+pub mod CommitLaws
+mod NewLaws
