@@ -21,7 +21,7 @@ LOG = os.path.join(OUT, "settle.log")
 EXAMPLE = ["period", f"{HOME}/examples/meter.csv", f"{HOME}/examples/contracts.csv", "50.00000"]
 MOST_JOBS = 8  # more seldom help a proof
 JOB_MEMORY = 2_000_000_000
-LANE_MEMORY = 4_000_000_000  # a check of the largest crate, tests and all
+LANE_MEMORY = 6_500_000_000  # a check of one of the largest crates, tests and all
 # The line that `rt` prints when it has proved a crate.
 PROVED = re.compile(rb"crate (\w+): ")
 
