@@ -235,18 +235,12 @@ fn hh_rows::keys::right: proved
         self.assertEqual(said.stderr, "tools/wrong_bodies.py: hh_nothing has no folder must-fail-by-hand\n")
 
     def test_each_was_refused_by_its_contract(self):
-        """The record of each fits: neither it nor its contract has changed since it was refused. The crates that have no record yet are
-        those that crates/README.md names."""
+        """The record of each fits: neither it nor its contract has changed since it was refused."""
         module = script()
-        crates = sorted({edit.parent.parent.name for edit in BY_HAND})
-        folders = {crate: HOME / "crates" / crate / "must-fail-by-hand" for crate in crates}
-        (line,) = re.findall(r"(?m)^No record yet: (.*)\.$", (HOME / "crates" / "README.md").read_text(encoding="utf-8"))
-        unrecorded = [crate for crate, folder in folders.items() if not (folder / "TRIED").exists()]
-        self.assertEqual(unrecorded, re.findall(r"`(\w+)`", line))
-        for crate, folder in folders.items():
-            if crate not in unrecorded:
-                wrong = module.changed(crate) | module.noted(folder).keys() - module.sums_of(crate).keys()
-                self.assertEqual([], sorted(wrong), f"not tried since they changed: tools/wrong_bodies.py --changed {crate}")
+        for crate in sorted({edit.parent.parent.name for edit in BY_HAND}):
+            kept = module.noted(HOME / "crates" / crate / "must-fail-by-hand")
+            wrong = module.changed(crate) | kept.keys() - module.sums_of(crate).keys()
+            self.assertEqual([], sorted(wrong), f"not tried since they changed: tools/wrong_bodies.py --changed {crate}")
 
     def test_the_gate_tries_one_of_each_layer(self):
         """And those of the way of a file and of a run over a database."""
