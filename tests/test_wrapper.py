@@ -264,6 +264,7 @@ class Failures(OfTheScript):
         status, written, told = self.call("word")
         self.assertEqual((status, written), (70, b""))
         self.assertIn(f"{crate} has an open goal", told)
+        self.assertNotIn(f"{crate}: proved", told)
         self.assertIn(str(self.log), told.splitlines()[-1])
         self.assertIn(f"{crate} has an open goal", self.log.read_text())
         asked.unlink()

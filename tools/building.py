@@ -22,8 +22,8 @@ EXAMPLE = ["period", f"{HOME}/examples/meter.csv", f"{HOME}/examples/contracts.c
 MOST_JOBS = 8  # more seldom help a proof
 JOB_MEMORY = 2_000_000_000
 LANE_MEMORY = 6_500_000_000  # a check of one of the largest crates, tests and all
-# The line that `rt` prints when it has proved a crate.
-PROVED = re.compile(rb"crate (\w+): ")
+# The two lines with which `rt` ends what it says of a crate that it has checked, the second one where the crate is proved.
+CHECKED, PROVED = re.compile(rb"crate (\w+): "), b"logic=proved "
 
 
 def available_memory():
@@ -97,21 +97,25 @@ class Course:
     """How far a call of `rt` is that proves these crates."""
 
     def __init__(self, crates):
-        self.crates, self.estimate, self.began = crates, Estimate(crates), time.monotonic()
+        self.left, self.count, self.checked = list(crates), len(crates), None
+        self.estimate, self.began = Estimate(crates), time.monotonic()
 
     def heard(self, line):
         """Takes in a line that `rt` has printed."""
-        proved = PROVED.match(line)
-        if proved and proved[1].decode() in self.crates[:-1]:
-            self.done(proved[1].decode(), "proved")
+        checked = CHECKED.match(line)
+        if checked:
+            self.checked = checked[1].decode()
+        elif line.startswith(PROVED) and self.checked in self.left[:-1]:
+            self.done(self.checked, "proved")
         elif line.startswith(b"rt: waiting for another rt"):
             say("another call of `rt` works on these crates; waiting for that")
 
     def done(self, crate, how):
         """Tells that a crate is done, and so are all before it."""
-        now, number = time.monotonic(), self.crates.index(crate) + 1
+        now = time.monotonic()
+        del self.left[: self.left.index(crate) + 1]
         self.estimate.hear(crate, now - self.began)
-        say(f"[{number}/{len(self.crates)}] {crate}: {how}, {now - self.began:.0f} s{self.estimate.told()}")
+        say(f"[{self.count - len(self.left)}/{self.count}] {crate}: {how}, {now - self.began:.0f} s{self.estimate.told()}")
         self.began = now
 
 
