@@ -16,3 +16,4 @@ pub mod PositionRanges
 pub mod PositionSums
 pub mod PositionTables
 pub mod PositionWrites
+pub use Rattle.hh_state_laws.proofs.RisingLaws

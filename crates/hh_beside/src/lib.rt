@@ -10,6 +10,7 @@ pub use day_laws::{
     accounted_for_where_all_touched, holds_periods, tells_credits, tells_periods, tells_rows,
     untouched_has_price, untouched_has_readings, untouched_is_settled, untouched_stays,
 };
+pub use hh_state_laws::{load_effect, run_effect, sound_states};
 pub use laws::{loads_agree, made_anew_agrees, runs_agree};
 pub use position_laws::{
     found_once_changed, known_are_nets, known_is_net, loads_keep_positions, made_anew_are_right,

@@ -9,9 +9,9 @@ use Rattle.std.proofs.Math.Nat.{mul-le-mul, suc-mul}
 use Rattle.std.proofs.lemmas.Int.{ints, to_z-of_z, unsigned_abs-mul}
 use Rattle.std.proofs.lemmas.List.{append_assoc, map_more, take_all}
 use Rattle.std.proofs.lemmas.List.Elements.{All-map, All-more, All-push}
-use Rattle.hh_num.specs.Ranges.{IsBetween}
-use Rattle.hh_num.specs.Rounding.{near}
-use Rattle.hh_num.specs.Totals.{total}
+use Rattle.hh_share.specs.Ranges.{IsBetween}
+use Rattle.hh_share.specs.Rounding.{near}
+use Rattle.hh_share.specs.Totals.{total}
 use Rattle.hh_names.proofs.AccountLaws.{account_total, bytes_total}
 use Rattle.hh_calc.specs.declared.data.Subsidiary.{Subsidiary}
 use Rattle.hh_calc.specs.declared.result.CreditRow.{CreditRow}

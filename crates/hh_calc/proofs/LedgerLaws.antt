@@ -9,8 +9,8 @@ use Rattle.std.proofs.lemmas.List.Concat.{flat_map-append}
 use Rattle.std.proofs.lemmas.List.Elements.{filter_more, All-replicate}
 use Rattle.std.proofs.lemmas.List.Sorted.{length_permutation, IsPermutation-append_left, IsPermutation-put_mid, IsPermutation-trans}
 use Rattle.std.proofs.lemmas.List.Sums.{sum_by-append}
-use Rattle.hh_num.specs.Totals.{total}
-use Rattle.hh_num.proofs.TotalLaws.{total-append}
+use Rattle.hh_share.specs.Totals.{total}
+use Rattle.hh_share.proofs.TotalLaws.{total-append}
 use Rattle.hh_names.specs.declared.account.Account.{Account}
 use Rattle.hh_calc.specs.declared.result.CreditRow.{CreditRow}
 use Rattle.hh_calc.specs.declared.sums.AccountSums.{AccountSums}

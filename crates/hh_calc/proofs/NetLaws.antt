@@ -10,8 +10,8 @@ use Rattle.std.proofs.lemmas.Int.{ints}
 use Rattle.std.proofs.lemmas.List.{length-map}
 use Rattle.std.proofs.lemmas.List.Folds.{list_all-map}
 use Rattle.std.proofs.lemmas.Slice.Zip.{get_or-zip, seconds-zip}
-use Rattle.hh_num.specs.Totals.{total}
-use Rattle.hh_num.proofs.TotalLaws.{total-map, total-neg, total-plus, total-same, total-swap}
+use Rattle.hh_share.specs.Totals.{total}
+use Rattle.hh_share.proofs.TotalLaws.{total-map, total-neg, total-plus, total-same, total-swap}
 use Rattle.hh_names.specs.declared.account.Account.{Account}
 use Rattle.hh_names.specs.declared.values.Contract.{Contract}
 use Rattle.hh_names.specs.Accounts.{account_cmp, is_same_account}

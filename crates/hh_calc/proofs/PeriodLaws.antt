@@ -5,8 +5,8 @@ use Rattle.std.specs.Str.{bytes_eq}
 use Rattle.std.proofs.Math.IntN.{+ℤ_idr, +ℤ_comm, +ℤ_invr, -ℤ-+ℤ_cancel}
 use Rattle.std.proofs.lemmas.Bool.{cases_lt, false_from_ne_true}
 use Rattle.std.proofs.lemmas.Slice.Eq.{bytes_eq-Decides}
-use Rattle.hh_num.specs.Totals.{total}
-use Rattle.hh_num.proofs.TotalLaws.{total-append, total-filter, total-map, total-plus, total-same, total-zero}
+use Rattle.hh_share.specs.Totals.{total}
+use Rattle.hh_share.proofs.TotalLaws.{total-append, total-filter, total-map, total-plus, total-same, total-zero}
 use Rattle.hh_names.specs.declared.account.Account.{Account}
 use Rattle.hh_share.specs.Shares.{SumsTo}
 use Rattle.hh_share.proofs.DepartureLaws.{shares_depart_least}

@@ -6,7 +6,7 @@ use Rattle.std.specs.Int.Signed.{mag}
 use Rattle.std.proofs.Math.IntN.{+ℤ_idl}
 use Rattle.std.proofs.Math.Nat.{mul-le-mul}
 use Rattle.std.proofs.lemmas.Int.{ints, to_z-of_z, unsigned_abs-mul}
-use Rattle.hh_num.specs.Ranges.{IsBetween}
+use Rattle.hh_share.specs.Ranges.{IsBetween}
 use Rattle.std.proofs.lemmas.Bool.Decides.{nat_tests}
 use Rattle.hh_names.specs.declared.account.Account.{Account}
 use Rattle.hh_calc.specs.declared.sums.AccountSums.{AccountSums}

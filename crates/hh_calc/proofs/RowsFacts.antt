@@ -7,7 +7,7 @@ use Rattle.std.proofs.lemmas.Bool.{and_from, and_parts}
 use Rattle.std.proofs.lemmas.Int.{ints}
 use Rattle.std.proofs.lemmas.List.{get_or-map, map-append, map_more, take_more}
 use Rattle.std.proofs.lemmas.List.Folds.{list_all_at, list_all_more}
-use Rattle.hh_num.specs.Totals.{total}
+use Rattle.hh_share.specs.Totals.{total}
 use Rattle.hh_names.specs.declared.account.Account.{Account}
 use Rattle.hh_calc.specs.declared.result.Figures.{Figures}
 use Rattle.hh_calc.specs.declared.sums.AccountSums.{AccountSums}

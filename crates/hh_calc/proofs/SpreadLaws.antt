@@ -7,8 +7,8 @@ use Rattle.std.proofs.Math.IntN.{+ℤ_idl, +ℤ_idr}
 use Rattle.std.proofs.lemmas.Int.{ints}
 use Rattle.std.proofs.lemmas.List.Sorted.{sum_by-IsPermutation}
 use Rattle.std.proofs.lemmas.List.Sums.{sum_by-cons}
-use Rattle.hh_num.specs.Totals.{total}
-use Rattle.hh_num.proofs.TotalLaws.{total-append}
+use Rattle.hh_share.specs.Totals.{total}
+use Rattle.hh_share.proofs.TotalLaws.{total-append}
 
 module _ {X : Type 0} (test : X → Bool) (f : X → ℤ) where
   -- an amount that counts if the test holds

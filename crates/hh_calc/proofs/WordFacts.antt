@@ -4,7 +4,7 @@ use Rattle.std.specs.Prelude.{ℤ, pos, neg_ℤ, ◌-ℤ◌, unsigned_abs}
 use Rattle.std.specs.Int.{w128}
 use Rattle.std.proofs.Math.IntN.{+ℤ_idl}
 use Rattle.std.proofs.lemmas.Int.{ints, to_z-of_z}
-use Rattle.hh_num.specs.Ranges.{IsBetween}
+use Rattle.hh_share.specs.Ranges.{IsBetween}
 use Rattle.hh_calc.specs.steps.Sums.{greatest_volume}
 
 -- a number as a word of 128 bits

@@ -2,9 +2,9 @@
 -- formulas and numbers are this office's own. Energy is in ticks, 10^10 to the MWh, cash in pence, positive if the account pays.
 use Rattle.std.specs.Prelude.{ℕ, ◌^◌, unsigned_abs, ℤ, pos, neg_ℤ, ◌+ℤ◌, ◌-ℤ◌, ◌*ℤ◌, List, [], ◌∷◌, ◌++◌, map, filter, not, sum_by, if◌then◌else◌}
 use Rattle.std.specs.List.{flat_map, zip}
-use Rattle.hh_num.specs.Quantities.{hundred_percent}
-use Rattle.hh_num.specs.Rounding.{near}
-use Rattle.hh_num.specs.Totals.{total}
+use Rattle.hh_share.specs.Quantities.{hundred_percent}
+use Rattle.hh_share.specs.Rounding.{near}
+use Rattle.hh_share.specs.Totals.{total}
 use Rattle.hh_names.specs.declared.account.Account.{Account}
 use Rattle.hh_names.specs.declared.values.Contract.{Contract}
 use Rattle.hh_names.specs.Accounts.{is_same_account}

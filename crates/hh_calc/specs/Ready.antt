@@ -1,9 +1,9 @@
 -- When a period may be settled.
 use Rattle.std.specs.Prelude.{◌≡◌, ℕ, ◌≢◌, ◌≤◌, ℤ, pos, List, length, All, AllPairs, Contains}
 use Rattle.std.specs.List.Sorted.{IsStrictlySortedBy}
-use Rattle.hh_num.specs.Quantities.{net_volumes}
-use Rattle.hh_num.specs.Ranges.{IsBetween}
-use Rattle.hh_num.specs.Totals.{total}
+use Rattle.hh_share.specs.Quantities.{net_volumes}
+use Rattle.hh_share.specs.Ranges.{IsBetween}
+use Rattle.hh_share.specs.Totals.{total}
 use Rattle.hh_names.specs.declared.account.Account.{Account}
 use Rattle.hh_names.specs.declared.values.Contract.{Contract}
 use Rattle.hh_names.specs.Accounts.{account_cmp}

@@ -3,11 +3,11 @@ use Rattle.std.specs.Prelude.{◌≡◌, ℤ, pos, ◌+ℤ◌, List, map, filter
 use Rattle.std.specs.declared.cmp.Ordering.{Ordering}
 use Rattle.std.specs.Ordering.{on, then_cmp}
 use Rattle.std.specs.Str.{bytes_eq}
-use Rattle.hh_num.specs.Totals.{total}
 use Rattle.hh_names.specs.declared.account.Account.{Account}
 use Rattle.hh_names.specs.Accounts.{account_cmp, bytes_cmp}
 use Rattle.hh_share.specs.Shares.{counted_weights}
 use Rattle.hh_share.specs.Departure.{DepartsLeast}
+use Rattle.hh_share.specs.Totals.{total}
 use Rattle.hh_calc.specs.declared.result.AccountRow.{AccountRow}
 use Rattle.hh_calc.specs.declared.result.CreditRow.{CreditRow}
 use Rattle.hh_calc.specs.declared.result.Figures.{Figures}

@@ -1,6 +1,6 @@
 -- What contracts see of a period's data and of its settlement.
 use Rattle.std.specs.Prelude.{ℕ, ℤ, neg_ℤ, Bool, List}
-use Rattle.hh_num.specs.Totals.{total}
+use Rattle.hh_share.specs.Totals.{total}
 use Rattle.hh_names.specs.declared.account.Account.{Account}
 use Rattle.hh_names.specs.declared.values.Contract.{Contract}
 use Rattle.hh_names.specs.declared.values.Reading.{Reading}

@@ -8,7 +8,7 @@ ghost use Rattle.hh_calc.specs.steps.Sums.{greatest_volume, IsCreditSmall};
 
 use crate::data::{Subsidiary, UnitData};
 use crate::result::CreditRow;
-use hh_num::{Ticks, round_div};
+use hh_share::{Ticks, round_div};
 use std::alloc::AllocError;
 
 /// 100 percent, in the units of a percentage.

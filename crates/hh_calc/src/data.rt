@@ -4,7 +4,7 @@ ghost use Rattle.std.specs.Prelude.{◌≡◌};
 ghost use Rattle.hh_calc.specs.Terms.{unit_data, contracts_given, period_data};
 
 use hh_names::{Account, Contract, Reading, Reallocation, UnitId};
-use hh_num::{NetKwh, Price};
+use hh_share::{NetKwh, Price};
 use std::marker::Model;
 
 /// The place to look at first where none is known. No list has it, so nothing is compared there.

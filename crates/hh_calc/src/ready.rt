@@ -1,7 +1,7 @@
 //! Whether a period may be settled.
 
 ghost use Rattle.std.specs.Prelude.{◌≡◌, ◌↔◌, All, IsTrue};
-ghost use Rattle.hh_num.specs.Totals.{total};
+ghost use Rattle.hh_share.specs.Totals.{total};
 ghost use Rattle.std.specs.declared.cmp.Ordering.TheVariants.{Less};
 ghost use Rattle.hh_names.specs.Accounts.{account_cmp};
 ghost use Rattle.hh_calc.specs.Ready.{AreAccountsInOrder, AreContractsReady, AreNetsReady, AreSubsidiariesListed, HasFewSubsidiaries, IsContractListed, IsListed, IsNetVolume, IsReady, IsUnitListed};
@@ -10,7 +10,7 @@ ghost use Rattle.hh_calc.specs.Terms.{contracts_given};
 use crate::data::{ContractPlaces, Contracts, NOWHERE, PeriodData, Subsidiary, UnitData};
 use crate::places::{place_of, places_of_row};
 use hh_names::{Account, Contract};
-use hh_num::NetKwh;
+use hh_share::NetKwh;
 use std::cmp::Ordering;
 
 /// The most subsidiaries that a unit may have.

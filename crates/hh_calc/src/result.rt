@@ -1,11 +1,11 @@
 //! A settled period.
 
 ghost use Rattle.std.specs.Prelude.{◌≡◌, neg_ℤ, IfOk, IfSome};
-ghost use Rattle.hh_num.specs.Totals.{total};
+ghost use Rattle.hh_share.specs.Totals.{total};
 ghost use Rattle.hh_calc.specs.Terms.{settled_as, settled_period};
 
 use hh_names::{Account, UnitId};
-use hh_num::{Pence, Ticks};
+use hh_share::{Pence, Ticks};
 use std::alloc::{AllocError, AllocFailed, Global};
 use std::marker::Model;
 

@@ -15,8 +15,7 @@ use crate::ledger::ledger_of;
 use crate::result::{AccountRow, CalcFault, Figures, PeriodResult};
 use crate::sums::AccountSums;
 use hh_names::Account;
-use hh_num::{Pence, Price, Ticks, round_div};
-use hh_share::apportion;
+use hh_share::{Pence, Price, Ticks, apportion, round_div};
 use std::alloc::{AllocError, Global};
 
 /// The greatest energy of an account in a period, in ticks.

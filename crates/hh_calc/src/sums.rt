@@ -11,7 +11,7 @@ use crate::data::{ContractPlaces, UnitData};
 use crate::places::{place_of, places_of_row};
 use crate::result::CreditRow;
 use hh_names::{Account, Contract};
-use hh_num::NetKwh;
+use hh_share::NetKwh;
 
 /// How many ticks a kWh has.
 const TICKS_PER_KWH: i128 = 10_000_000;

@@ -5,10 +5,10 @@ use Rattle.hh_requests.specs.declared.reply.Reply.{Reply}
 use Rattle.hh_requests.specs.declared.request.Request.{Request}
 use Rattle.hh_states.specs.Content.{Content, tables_of}
 use Rattle.hh_states.specs.States.{State}
-use Rattle.hh_office.specs.Crashes.{CrashStep}
-use Rattle.hh_office.specs.Machine.{next}
-use Rattle.hh_office.specs.Promises.{is_given_up}
-use Rattle.hh_office.specs.Views.{Kept, midnight_of}
+use Rattle.hh_http_serve.specs.Crashes.{CrashStep}
+use Rattle.hh_http_serve.specs.Machine.{next}
+use Rattle.hh_http_serve.specs.Promises.{is_given_up}
+use Rattle.hh_http_serve.specs.Views.{Kept, midnight_of}
 
 -- if two requests lead to the same state, a crash leaves the same after both
 pub crash_alike : {T L : Type 0} (is_honest : T → Type 0) (is_open : T → Bool) (may_leave : T → L → Type 0) (holds : L → Content → Type 0) (old new : Kept T) (moment at : ℤ) (asked other : Request) (given : Reply)

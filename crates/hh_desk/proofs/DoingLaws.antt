@@ -12,11 +12,11 @@ use Rattle.hh_requests.specs.declared.reply.Reply.{Reply}
 use Rattle.hh_rows.specs.RowKinds.{most_bytes}
 use Rattle.hh_states.specs.Content.{tables_of}
 use Rattle.hh_states.specs.States.{State, file_key_cmp}
-use Rattle.hh_office.specs.Machine.{key_of, load_beside, may, step}
-use Rattle.hh_office.specs.Transitions.{Transition, refused_for}
-use Rattle.hh_office.specs.Promises.{HandleStep, Represents, RepresentsAfter, RepresentsNow, is_given_up}
-use Rattle.hh_office.specs.Refusals.{CountsMore, CountsReply, RepresentsSome}
-use Rattle.hh_office.specs.Views.{OfficeView, midnight_of}
+use Rattle.hh_http_serve.specs.Machine.{key_of, load_beside, may, step}
+use Rattle.hh_http_serve.specs.Transitions.{Transition, refused_for}
+use Rattle.hh_http_serve.specs.Promises.{HandleStep, Represents, RepresentsAfter, RepresentsNow, is_given_up}
+use Rattle.hh_http_serve.specs.Refusals.{CountsMore, CountsReply, RepresentsSome}
+use Rattle.hh_http_serve.specs.Views.{OfficeView, midnight_of}
 use Rattle.hh_host.specs.Views.{HostView}
 use Rattle.hh_script.specs.Steps.{LoadStep, RunStep}
 use Rattle.hh_desk.specs.declared.told.Told.TheVariants.{Replied}

@@ -8,10 +8,10 @@ use Rattle.hh_time.specs.Zone.{midnight_in}
 use Rattle.hh_names.specs.declared.fault.Refusal.{Refusal}
 use Rattle.hh_states.specs.Changes.{TablesRepresent}
 use Rattle.hh_states.specs.States.{State}
-use Rattle.hh_office.specs.Reports.{report_for}
-use Rattle.hh_office.specs.Views.{OfficeView, midnight_of}
+use Rattle.hh_http_serve.specs.Reports.{report_for}
+use Rattle.hh_http_serve.specs.Views.{OfficeView, midnight_of}
+use Rattle.hh_http_serve.specs.Promises.{RepresentsNow}
 use Rattle.hh_host.specs.Views.{HostView}
-use Rattle.hh_office.specs.Promises.{RepresentsNow}
 use Rattle.hh_desk.proofs.GivingUpLaws.{fault_then, load_then, run_then}
 use Rattle.hh_desk.proofs.ServedLaws.{served_then}
 use Rattle.hh_desk.specs.declared.errand.ErrandStop.{ErrandStop}

@@ -2,9 +2,9 @@
 use Rattle.std.proofs.Common.{◌≡◌, Bool, Result, Ok, Err, subst, sym}
 use Rattle.std.specs.Prelude.{IsErrAnd}
 use Rattle.hh_devices.specs.DeviceChanges.{DeviceChange}
-use Rattle.hh_office.specs.Crashes.{AddsNothing, IfReported}
-use Rattle.hh_office.specs.declared.report.ReportStop.{ReportStop}
-use Rattle.hh_office.specs.declared.report.ReportStop.TheVariants.{Refused, Write}
+use Rattle.hh_http_serve.specs.Crashes.{AddsNothing, IfReported}
+use Rattle.hh_http_serve.specs.report.ReportStop.{ReportStop}
+use Rattle.hh_http_serve.specs.report.ReportStop.TheVariants.{Refused, Write}
 use Rattle.hh_desk.specs.declared.told.Told.{Told}
 use Rattle.hh_desk.specs.ErrandCrashes.{EndsBy, IfWritten}
 use Rattle.hh_desk.specs.Errands.{report_stop}

@@ -4,8 +4,8 @@ use Rattle.std.specs.Prelude.{IsErrAnd}
 use Rattle.hh_devices.specs.DeviceChanges.{DeviceChange}
 use Rattle.hh_devices.specs.Devices.{AppendsFront}
 use Rattle.hh_states.specs.States.{State}
-use Rattle.hh_office.specs.Promises.{Represents, RepresentsNow}
-use Rattle.hh_office.specs.Views.{OfficeView}
+use Rattle.hh_http_serve.specs.Promises.{Represents, RepresentsNow}
+use Rattle.hh_http_serve.specs.Views.{OfficeView}
 use Rattle.hh_sockets.specs.Ports.{IsPortFor}
 use Rattle.hh_host.specs.Views.{HostView}
 use Rattle.hh_script.specs.Reports.{ReportStep}

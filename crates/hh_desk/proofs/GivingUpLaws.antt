@@ -12,10 +12,10 @@ use Rattle.hh_names.specs.Faults.{plain_fault}
 use Rattle.hh_requests.specs.declared.reply.Reply.{Reply}
 use Rattle.hh_requests.specs.declared.reply.Reply.TheVariants as reply
 use Rattle.hh_states.specs.States.{State}
-use Rattle.hh_office.specs.Promises.{gives_up, is_failure, is_given_up, is_plain}
-use Rattle.hh_office.specs.Refusals.{CountsMore, CountsReply, CountsStoreFault, is_of_store}
+use Rattle.hh_http_serve.specs.Promises.{gives_up, is_failure, is_given_up, is_plain}
+use Rattle.hh_http_serve.specs.Refusals.{CountsMore, CountsReply, CountsStoreFault, is_of_store}
+use Rattle.hh_http_serve.specs.StoreFaults.{CountsOneMore}
 use Rattle.hh_host.specs.Views.{HostView}
-use Rattle.hh_office.specs.StoreFaults.{CountsOneMore}
 use Rattle.hh_script.specs.Steps.{LoadStep, RunStep}
 use Rattle.hh_desk.specs.declared.told.Told.{Told}
 use Rattle.hh_desk.specs.declared.told.Told.TheVariants.{Replied, Unreadable}

@@ -8,11 +8,11 @@ use Rattle.hh_devices.specs.Devices.{AppendsFront}
 use Rattle.hh_names.specs.declared.fault.Fault.{Fault}
 use Rattle.hh_names.specs.declared.fault.Refusal.{Refusal}
 use Rattle.hh_names.specs.Faults.{plain_fault}
-use Rattle.hh_office.specs.declared.report.ReportStop.{ReportStop}
-use Rattle.hh_office.specs.declared.report.ReportStop.TheVariants.{Refused, Write}
-use Rattle.hh_office.specs.Promises.{gives_up}
-use Rattle.hh_office.specs.Refusals.{CountsMore, CountsReportStop, CountsStoreFault}
-use Rattle.hh_office.specs.Reports.{ReportsAs}
+use Rattle.hh_http_serve.specs.report.ReportStop.{ReportStop}
+use Rattle.hh_http_serve.specs.report.ReportStop.TheVariants.{Refused, Write}
+use Rattle.hh_http_serve.specs.Promises.{gives_up}
+use Rattle.hh_http_serve.specs.Refusals.{CountsMore, CountsReportStop, CountsStoreFault}
+use Rattle.hh_http_serve.specs.Reports.{ReportsAs}
 use Rattle.hh_desk.proofs.GivingUpLaws.{fault_where}
 use Rattle.hh_desk.specs.declared.errand.ErrandStop.{ErrandStop}
 use Rattle.hh_desk.specs.declared.errand.ErrandStop.TheVariants as stop

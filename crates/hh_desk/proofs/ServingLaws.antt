@@ -6,10 +6,10 @@ use Rattle.hh_devices.specs.DeviceChanges.{DeviceChange}
 use Rattle.hh_time.specs.Zone.{midnight_in}
 use Rattle.hh_requests.specs.declared.request.Request.{Request}
 use Rattle.hh_states.specs.States.{State}
-use Rattle.hh_office.specs.Machine.{next}
-use Rattle.hh_office.specs.Promises.{Represents, is_given_up}
-use Rattle.hh_office.specs.Refusals.{CountsMore, RepresentsSome}
-use Rattle.hh_office.specs.Views.{OfficeView, midnight_of}
+use Rattle.hh_http_serve.specs.Machine.{next}
+use Rattle.hh_http_serve.specs.Promises.{Represents, is_given_up}
+use Rattle.hh_http_serve.specs.Refusals.{CountsMore, RepresentsSome}
+use Rattle.hh_http_serve.specs.Views.{OfficeView, midnight_of}
 use Rattle.hh_http_serve.specs.declared.serve.ServeFault.{ServeFault}
 use Rattle.hh_http_serve.specs.declared.serve.ServeFault.TheVariants.{Memory, Read, Write}
 use Rattle.hh_http_serve.specs.declared.serve.Served.{Served}

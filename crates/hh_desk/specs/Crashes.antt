@@ -4,8 +4,8 @@ use Rattle.hh_names.specs.Faults.{memory_fault}
 use Rattle.hh_requests.specs.declared.reply.Reply.{Reply}
 use Rattle.hh_requests.specs.declared.reply.Reply.TheVariants as reply
 use Rattle.hh_states.specs.Content.{Content}
-use Rattle.hh_office.specs.Crashes.{CrashStep}
-use Rattle.hh_office.specs.Views.{Kept}
+use Rattle.hh_http_serve.specs.Crashes.{CrashStep}
+use Rattle.hh_http_serve.specs.Views.{Kept}
 use Rattle.hh_host.specs.Views.{HostView}
 use Rattle.hh_script.specs.Steps.{LoadStep, RunStep}
 use Rattle.hh_desk.specs.declared.told.Told.{Told}

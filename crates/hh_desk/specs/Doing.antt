@@ -6,10 +6,10 @@ use Rattle.hh_requests.specs.declared.request.Action.TheVariants as ask
 use Rattle.hh_requests.specs.declared.request.Request.{Request}
 use Rattle.hh_requests.specs.declared.reply.Reply.TheVariants as reply
 use Rattle.hh_states.specs.States.{State}
-use Rattle.hh_office.specs.Machine.{step}
-use Rattle.hh_office.specs.Transitions.{Transition}
-use Rattle.hh_office.specs.Promises.{Represents, RepresentsNow, is_refused}
-use Rattle.hh_office.specs.Views.{OfficeView, midnight_of}
+use Rattle.hh_http_serve.specs.Machine.{step}
+use Rattle.hh_http_serve.specs.Transitions.{Transition}
+use Rattle.hh_http_serve.specs.Promises.{Represents, RepresentsNow, is_refused}
+use Rattle.hh_http_serve.specs.Views.{OfficeView, midnight_of}
 use Rattle.hh_host.specs.Views.{HostView}
 use Rattle.hh_script.specs.Steps.{LoadStep, RunStep}
 use Rattle.hh_desk.specs.declared.told.Told.{Told}

@@ -1,10 +1,10 @@
 -- What a crash leaves of an office's tables after a command.
 use Rattle.std.specs.Prelude.{◌≡◌, ℕ, List, Bool, Result, Ok, Err}
 use Rattle.hh_states.specs.Content.{Content}
-use Rattle.hh_office.specs.Promises.{UnlessFailed}
-use Rattle.hh_office.specs.Views.{Kept}
+use Rattle.hh_http_serve.specs.Promises.{UnlessFailed}
+use Rattle.hh_http_serve.specs.Views.{Kept}
+use Rattle.hh_http_serve.specs.Crashes.{AddsNothing}
 use Rattle.hh_host.specs.Views.{HostView}
-use Rattle.hh_office.specs.Crashes.{AddsNothing}
 use Rattle.hh_desk.specs.Crashes.{LoadLeaves, RunLeaves}
 use Rattle.hh_desk.specs.declared.told.Told.{Told}
 use Rattle.hh_desk.specs.Errands.{ErrandStep, Load, Report, Run, Serve, told_outcome}

@@ -8,11 +8,11 @@ use Rattle.hh_names.specs.declared.fault.Refusal.{Refusal}
 use Rattle.hh_names.specs.Faults.{plain_fault}
 use Rattle.hh_requests.specs.declared.reply.Reply.TheVariants as reply
 use Rattle.hh_states.specs.States.{State}
-use Rattle.hh_office.specs.declared.report.ReportStop.{ReportStop}
-use Rattle.hh_office.specs.declared.report.ReportStop.TheVariants as reporting
-use Rattle.hh_office.specs.Promises.{Represents, RepresentsNow}
-use Rattle.hh_office.specs.Reports.{report_for}
-use Rattle.hh_office.specs.Views.{OfficeView, midnight_of}
+use Rattle.hh_http_serve.specs.report.ReportStop.{ReportStop}
+use Rattle.hh_http_serve.specs.report.ReportStop.TheVariants as reporting
+use Rattle.hh_http_serve.specs.Promises.{Represents, RepresentsNow}
+use Rattle.hh_http_serve.specs.Reports.{report_for}
+use Rattle.hh_http_serve.specs.Views.{OfficeView, midnight_of}
 use Rattle.hh_sockets.specs.Arrivals.{Arrival}
 use Rattle.hh_sockets.specs.Ports.{IsPortFor}
 use Rattle.hh_host.specs.Clocks.{AllTell, ClockReading}

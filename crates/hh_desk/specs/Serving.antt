@@ -4,15 +4,15 @@ use Rattle.hh_devices.specs.DeviceChanges.{DeviceChange, IsWell}
 use Rattle.hh_time.specs.Days.{Midnights}
 use Rattle.hh_requests.specs.declared.request.Request.{Request}
 use Rattle.hh_states.specs.States.{State}
-use Rattle.hh_office.specs.Machine.{next}
-use Rattle.hh_office.specs.Promises.{Represents, RepresentsNow}
-use Rattle.hh_office.specs.Views.{OfficeView, midnight_of}
+use Rattle.hh_http_serve.specs.Machine.{next}
+use Rattle.hh_http_serve.specs.Promises.{Represents, RepresentsNow}
+use Rattle.hh_http_serve.specs.Views.{OfficeView, midnight_of}
 use Rattle.hh_http_serve.specs.declared.serve.ServeFault.{ServeFault}
 use Rattle.hh_http_serve.specs.declared.serve.Served.{Served}
 use Rattle.hh_http_serve.specs.Serves.{CountsReading, CountsWriting, IsReadOf, Serves}
 use Rattle.hh_sockets.specs.Arrivals.{Arrival, Exchange}
 use Rattle.hh_host.specs.Clocks.{ClockReading}
-use Rattle.hh_office.specs.Refusals.{CountsMore}
+use Rattle.hh_http_serve.specs.Refusals.{CountsMore}
 use Rattle.hh_http_serve.specs.incoming.Incoming.TheVariants.{Asked}
 
 -- a connection that brought `bytes` led from one state to the other: to the same state, or to the machine's state after the request that

@@ -1,16 +1,16 @@
 //! Files that are loaded, and runs that are made.
 
 ghost use Rattle.std.specs.Prelude.{◌≡◌, ℕ, List, Some, None, take, IfOk, IsErrOf};
-ghost use Rattle.hh_office.specs.Refusals.{CountsUp, HasRefused};
-ghost use Rattle.hh_office.specs.Views.{IsSure};
+ghost use Rattle.hh_http_serve.specs.Refusals.{CountsUp, HasRefused};
+ghost use Rattle.hh_http_serve.specs.Views.{IsSure};
 ghost use Rattle.hh_script.specs.Steps.{load_of, run_of};
 ghost use Rattle.hh_desk.specs.Crashes.{LoadLeaves, RunLeaves};
 ghost use Rattle.hh_desk.specs.Doing.{LeavesRefused, OrdersRun, RunsLoad, request_for, request_of};
 
 use crate::told::Told;
 use hh_host::Host;
+use hh_http_serve::{Office, Tables};
 use hh_inputs::InputFault;
-use hh_office::{Office, Tables};
 use hh_requests::{Action, Bytes, Request, Upload};
 use hh_rows::FileBody;
 use hh_script::{LoadLine, RunLine};

@@ -3,8 +3,8 @@
 ghost use Rattle.std.specs.Prelude.{◌≡◌, ◌≢◌, ◌⊎◌, IfErr, IsErrOf, OnOk};
 ghost use Rattle.hh_devices.specs.DeviceChanges.{change};
 ghost use Rattle.hh_devices.specs.Devices.{Failed};
-ghost use Rattle.hh_office.specs.Refusals.{CountsUp, HasRefused};
-ghost use Rattle.hh_office.specs.Views.{IsSure};
+ghost use Rattle.hh_http_serve.specs.Refusals.{CountsUp, HasRefused};
+ghost use Rattle.hh_http_serve.specs.Views.{IsSure};
 ghost use Rattle.hh_desk.specs.ErrandCrashes.{ErrandLeaves};
 ghost use Rattle.hh_desk.specs.Errands.{EndsErrand, IsReport, errand_of};
 
@@ -14,8 +14,8 @@ use crate::reporting::write_report;
 use crate::telling::tell;
 use hh_devices::{DeviceFailed, Sink};
 use hh_host::Host;
+use hh_http_serve::{Office, Tables};
 use hh_names::Fault;
-use hh_office::{Office, Tables};
 use hh_script::{LoadLine, ReportLine, RunLine};
 use std::alloc::Global;
 

@@ -3,8 +3,8 @@
 ghost use Rattle.std.specs.Prelude.{◌≡◌, ◌≢◌, IfErr, IsErrOf, OnOk};
 ghost use Rattle.hh_devices.specs.DeviceChanges.{change};
 ghost use Rattle.hh_devices.specs.Devices.{Failed};
-ghost use Rattle.hh_office.specs.Refusals.{CountsUp, HasRefused};
-ghost use Rattle.hh_office.specs.Views.{IsSure};
+ghost use Rattle.hh_http_serve.specs.Refusals.{CountsUp, HasRefused};
+ghost use Rattle.hh_http_serve.specs.Views.{IsSure};
 ghost use Rattle.hh_desk.specs.Errands.{EndsErrand, Serve};
 ghost use Rattle.hh_desk.specs.steps.ErrandServing.{ServesAt};
 
@@ -13,7 +13,7 @@ use crate::lines::listening_line;
 use crate::serving::serve_each;
 use hh_devices::{Sink, write_whole};
 use hh_host::{FixedClock, Host, HostClock};
-use hh_office::{Office, Tables};
+use hh_http_serve::{Office, Tables};
 use hh_sockets::{Listener, SocketFailed};
 use std::alloc::Global;
 

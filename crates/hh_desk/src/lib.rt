@@ -13,7 +13,7 @@ mod told;
 
 pub use doing::{load_file, make_run};
 pub use errand::{Errand, ErrandStop, Serving, run_errand};
-pub use hh_office::{Office, ReportStop, reached_conserve};
+pub use hh_http_serve::{Office, ReportStop, Tables, reached_conserve};
 pub use lines::{LINE_ROOM, listening_line, loaded_line, run_line};
 pub use serving::serve_each;
 pub use told::Told;

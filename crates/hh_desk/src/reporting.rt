@@ -3,16 +3,16 @@
 ghost use Rattle.std.specs.Prelude.{◌≡◌, IsErrOf, OnOk};
 ghost use Rattle.hh_devices.specs.DeviceChanges.{change};
 ghost use Rattle.hh_devices.specs.Devices.{Failed};
-ghost use Rattle.hh_office.specs.Crashes.{AddsNothing};
-ghost use Rattle.hh_office.specs.Refusals.{CountsUp, HasRefused};
-ghost use Rattle.hh_office.specs.Views.{IsSure};
+ghost use Rattle.hh_http_serve.specs.Crashes.{AddsNothing};
+ghost use Rattle.hh_http_serve.specs.Refusals.{CountsUp, HasRefused};
+ghost use Rattle.hh_http_serve.specs.Views.{IsSure};
 ghost use Rattle.hh_script.specs.Reports.{report_of};
 ghost use Rattle.hh_desk.specs.ErrandCrashes.{IfWritten};
 ghost use Rattle.hh_desk.specs.steps.Reporting.{EndsReport};
 
 use crate::errand::ErrandStop;
 use hh_devices::Sink;
-use hh_office::{Office, ReportStop, Tables};
+use hh_http_serve::{Office, ReportStop, Tables};
 use hh_script::ReportLine;
 
 impl From<ReportStop> for ErrandStop {

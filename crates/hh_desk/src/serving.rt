@@ -1,15 +1,14 @@
 //! Connections that are served.
 
-ghost use Rattle.hh_office.specs.Views.{IsSure};
 ghost use Rattle.hh_desk.specs.Serving.{ServesEach};
 ghost use Rattle.hh_sockets.specs.Arrivals.{exchange};
-ghost use Rattle.hh_office.specs.Refusals.{CountsUp, HasRefused};
+ghost use Rattle.hh_http_serve.specs.Refusals.{CountsUp, HasRefused};
+ghost use Rattle.hh_http_serve.specs.Views.{IsSure};
 ghost use Rattle.hh_desk.specs.steps.Serving.{ServesNext, ServesNow};
 
 use hh_devices::{Sink, Source};
 use hh_host::Clock;
-use hh_http_serve::{Routes, ServeFault, Served, serve_one};
-use hh_office::{Office, Tables};
+use hh_http_serve::{Office, Routes, ServeFault, Served, Tables, serve_one};
 use hh_sockets::{Connection, Listener, Received};
 use std::alloc::Global;
 

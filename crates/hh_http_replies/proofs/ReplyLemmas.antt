@@ -10,7 +10,7 @@ use Rattle.serde_json.specs.Written.{has_float, items_have_float}
 use Rattle.serde_json.specs.declared.value.Value.{Value, Array}
 use Rattle.serde_json.proofs.Views.{view-Array}
 use Rattle.hh_names.specs.declared.fault.Fault.{Fault}
-use Rattle.hh_calc.specs.declared.result.AccountRow.{AccountRow}
+use Rattle.hh_requests.specs.result.AccountRow.{AccountRow}
 use Rattle.hh_requests.specs.declared.reply.Reply.{Reply}
 use Rattle.hh_requests.specs.declared.reply.Reply.TheVariants as reply
 use Rattle.hh_http_replies.specs.Bodies.{contract_body, kind_data, list_data, period_body, reply_body}

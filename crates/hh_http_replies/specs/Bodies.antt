@@ -12,7 +12,6 @@ use Rattle.hh_names.specs.declared.values.Counterparties.{Counterparties}
 use Rattle.hh_names.specs.Accounts.{account_text, is_same_account}
 use Rattle.hh_names.specs.Faults.{refusal_name, refusal_number}
 use Rattle.hh_rows.specs.declared.rows.ContractRow.{ContractRow}
-use Rattle.hh_calc.specs.declared.result.AccountRow.{AccountRow}
 use Rattle.hh_runs.specs.declared.run_kind.RunKind.{RunKind}
 use Rattle.hh_runs.specs.declared.summary.Summary.{Summary}
 use Rattle.hh_runs.specs.RunKinds.{run_kind_code}
@@ -20,6 +19,7 @@ use Rattle.hh_runs.specs.declared.run_key.RunKey.{RunKey}
 use Rattle.hh_requests.specs.declared.reply.Loaded.{Loaded}
 use Rattle.hh_requests.specs.declared.reply.Reply.{Reply}
 use Rattle.hh_requests.specs.declared.reply.Reply.TheVariants as reply
+use Rattle.hh_requests.specs.result.AccountRow.{AccountRow}
 use Rattle.hh_requests.specs.Views.{AccountView, ContractsView, RunsView}
 
 -- a count, and a number with its sign

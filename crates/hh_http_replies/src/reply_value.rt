@@ -7,10 +7,9 @@ ghost use Rattle.hh_http_replies.specs.Bodies.{account_body, account_data, balan
 ghost use Rattle.hh_http_replies.specs.steps.Bodies.{with_place};
 
 use crate::member_text::{date_text, number_text};
-use hh_calc::AccountRow;
 use hh_names::{Account, Counterparties, Fault, PeriodNumber, UnitId};
 use hh_num::{Kwh, Pence, Ticks};
-use hh_requests::{AccountReply, ContractsReply, Loaded, Reply, RunsReply};
+use hh_requests::{AccountReply, AccountRow, ContractsReply, Loaded, Reply, RunsReply};
 use hh_rows::ContractRow;
 use hh_runs::{RunKey, RunKind, Summary};
 use hh_time::SettlementDate;

@@ -7,8 +7,8 @@ use Rattle.hh_names.specs.Faults.{memory_fault}
 use Rattle.hh_requests.specs.declared.reply.Reply.{Reply}
 use Rattle.hh_requests.specs.declared.reply.Reply.TheVariants as reply
 use Rattle.hh_requests.specs.declared.request.Request.{Request}
-use Rattle.hh_states.specs.Content.{Content, tables_of}
-use Rattle.hh_states.specs.States.{State}
+use Rattle.hh_office.specs.Content.{Content, tables_of}
+use Rattle.hh_office.specs.States.{State}
 use Rattle.hh_office.specs.Crashes.{CrashStep}
 use Rattle.hh_office.specs.Machine.{next, step}
 use Rattle.hh_office.specs.PartyViews.{ForbidsOthers, ShowsByView}
@@ -17,11 +17,11 @@ use Rattle.hh_office.specs.Refusals.{CountsReply, RepresentsSome, is_of_store}
 use Rattle.hh_office.specs.StoreFaults.{CountsOneMore}
 use Rattle.hh_office.specs.Transitions.{Transition}
 use Rattle.hh_office.specs.Views.{Kept, OfficeView, midnight_of}
-use Rattle.hh_http_replies.specs.ReplyText.{reply_text}
-use Rattle.hh_http_replies.specs.declared.refusal.Refused.{Refused}
-use Rattle.hh_http_replies.specs.declared.reply.WriteFault.{WriteFault}
-use Rattle.hh_http_replies.specs.declared.reply.WriteFault.TheVariants as write
-use Rattle.hh_http_replies.specs.Writes.{WritesRefusal, WritesReply}
+use Rattle.hh_wire.specs.ReplyText.{reply_text}
+use Rattle.hh_wire.specs.refusal.Refused.{Refused}
+use Rattle.hh_wire.specs.reply.WriteFault.{WriteFault}
+use Rattle.hh_wire.specs.reply.WriteFault.TheVariants as write
+use Rattle.hh_wire.specs.Writes.{WritesRefusal, WritesReply}
 use Rattle.hh_wire.specs.declared.incoming.Incoming.{Incoming}
 use Rattle.hh_wire.specs.declared.incoming.Incoming.TheVariants.{Asked}
 use Rattle.hh_http_serve.specs.declared.serve.ServeFault.{ServeFault}

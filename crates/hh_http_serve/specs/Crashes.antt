@@ -5,10 +5,10 @@ use Rattle.hh_devices.specs.DeviceChanges.{DeviceChange}
 use Rattle.hh_devices.specs.Devices.{AppendsFront}
 use Rattle.hh_requests.specs.declared.reply.Reply.{Reply}
 use Rattle.hh_requests.specs.declared.request.Request.{Request}
-use Rattle.hh_states.specs.Content.{Content}
-use Rattle.hh_office.specs.Crashes.{CrashStep}
+pub use Rattle.hh_office.specs.Crashes.{AddsNothing, CrashStep, IfReported}
 use Rattle.hh_office.specs.Views.{Kept}
-use Rattle.hh_http_replies.specs.ReplyText.{reply_text}
+use Rattle.hh_office.specs.Content.{Content}
+use Rattle.hh_wire.specs.ReplyText.{reply_text}
 use Rattle.hh_wire.specs.declared.incoming.Incoming.TheVariants.{Asked}
 use Rattle.hh_http_serve.specs.Serves.{IsReadOf}
 use Rattle.hh_http_serve.specs.declared.serve.ServeFault.{ServeFault}

@@ -1,4 +1,14 @@
 pub mod Crashes
 pub mod ServeFaults
 pub mod Serves
+pub use Rattle.hh_office.specs.declared.report
+pub use Rattle.hh_office.specs.Headline
+pub use Rattle.hh_office.specs.Machine
+pub use Rattle.hh_office.specs.Promises
+pub use Rattle.hh_office.specs.Reached
+pub use Rattle.hh_office.specs.Refusals
+pub use Rattle.hh_office.specs.Reports
+pub use Rattle.hh_office.specs.StoreFaults
+pub use Rattle.hh_office.specs.Transitions
+pub use Rattle.hh_office.specs.Views
 pub use Rattle.hh_wire.specs.declared.incoming

@@ -1,6 +1,6 @@
 -- Why a connection is not served to its end if its reply was not written.
-use Rattle.hh_http_replies.specs.declared.reply.WriteFault.{WriteFault}
-use Rattle.hh_http_replies.specs.declared.reply.WriteFault.TheVariants as write
+use Rattle.hh_wire.specs.reply.WriteFault.{WriteFault}
+use Rattle.hh_wire.specs.reply.WriteFault.TheVariants as write
 use Rattle.hh_http_serve.specs.declared.serve.ServeFault.{ServeFault}
 use Rattle.hh_http_serve.specs.declared.serve.ServeFault.TheVariants.{Memory, Write}
 

@@ -8,14 +8,14 @@ use Rattle.hh_names.specs.Faults.{memory_fault}
 use Rattle.hh_requests.specs.declared.reply.Reply.{Reply}
 use Rattle.hh_requests.specs.declared.reply.Reply.TheVariants as reply
 use Rattle.hh_requests.specs.declared.request.Request.{Request}
-use Rattle.hh_states.specs.States.{State}
+use Rattle.hh_office.specs.States.{State}
 use Rattle.hh_office.specs.Machine.{next}
 use Rattle.hh_office.specs.PartyViews.{ForbidsOthers, ShowsByView}
 use Rattle.hh_office.specs.Promises.{ConservesAfter, HandleStep, RefusalLeaves, RepeatsOnce, Represents, RepresentsAfter}
 use Rattle.hh_office.specs.Refusals.{CountsReply, RepresentsSome}
 use Rattle.hh_office.specs.Views.{OfficeView, midnight_of}
-use Rattle.hh_http_replies.specs.declared.refusal.Refused.{Refused}
-use Rattle.hh_http_replies.specs.ReplyText.{RepliesRefused, reply_text}
+use Rattle.hh_wire.specs.refusal.Refused.{Refused}
+use Rattle.hh_wire.specs.ReplyText.{RepliesRefused, reply_text}
 use Rattle.hh_wire.specs.declared.incoming.Incoming.{Incoming}
 use Rattle.hh_wire.specs.declared.incoming.Incoming.TheVariants as incoming
 use Rattle.hh_wire.specs.declared.incoming.WireFault.{WireFault}

@@ -3,5 +3,6 @@
 
 mod serve;
 
+pub use hh_office::{Office, ReportStop, Tables, reached_conserve};
 pub use hh_wire::Routes;
 pub use serve::{ServeFault, Served, serve_one};

@@ -7,9 +7,8 @@ ghost use Rattle.hh_http_serve.specs.Crashes.{LeavesServed};
 ghost use Rattle.hh_http_serve.specs.Serves.{CountsReading, CountsWriting, Serves, ServingFailsAwaiting, RepresentsAfterOne};
 
 use hh_devices::{DeviceFailed, Sink, Source};
-use hh_http_replies::{WriteFault, write_refused, write_reply};
 use hh_office::{Office, Tables};
-use hh_wire::{Incoming, Routes, WireFault, read_request};
+use hh_wire::{Incoming, Routes, WireFault, WriteFault, read_request, write_refused, write_reply};
 use std::alloc::Global;
 
 /// What came of serving a connection.

@@ -4,7 +4,7 @@ use Rattle.std.specs.Prelude.{⊤}
 use Rattle.hh_devices.specs.DeviceChanges.{DeviceChange}
 use Rattle.hh_rows.specs.declared.settings.Settings.{Settings}
 use Rattle.hh_host.specs.Views.{HostView}
-use Rattle.hh_desk.specs.Errands.{ErrandStep}
+use Rattle.hh_session.specs.Errands.{ErrandStep}
 use Rattle.hh_kept_office.specs.declared.path.PathStop.{PathStop}
 use Rattle.hh_kept_office.specs.declared.scripts.ScriptPathStop.{ScriptPathStop}
 use Rattle.hh_kept_office.specs.Paths.{EndsAt, MakesAt}

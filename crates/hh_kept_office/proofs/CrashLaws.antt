@@ -16,23 +16,23 @@ use Rattle.hh_states.specs.States.{State}
 use Rattle.hh_store.specs.Crashes.{LeavesContent}
 use Rattle.hh_store.specs.StoreFaults.{store_fault}
 use Rattle.hh_store.specs.declared.store_fault.StoreFault.{StoreFault}
-use Rattle.hh_keyed_rows.specs.Values.{version}
-use Rattle.hh_desk.specs.Promises.{Represents, gives_up, is_given_up}
-use Rattle.hh_desk.specs.Views.{Kept, OfficeView, midnight_of}
+use Rattle.hh_session.specs.Promises.{Represents, gives_up, is_given_up}
+use Rattle.hh_session.specs.Views.{Kept, OfficeView, midnight_of}
 use Rattle.hh_host.specs.Views.{HostView}
 use Rattle.hh_script.specs.Steps.{LoadStep, RunStep}
 use Rattle.hh_script.specs.Reports.{ReportStep}
-use Rattle.hh_desk.specs.Crashes.{LoadLeaves, RunLeaves}
-use Rattle.hh_desk.specs.ErrandCrashes.{EndsBy, ErrandLeaves}
-use Rattle.hh_desk.specs.Errands.{ErrandOutcome, ErrandStep, Load, Report, Run, Serve, told_outcome}
-use Rattle.hh_desk.specs.declared.errand.ErrandStop.{ErrandStop}
-use Rattle.hh_desk.specs.declared.errand.ErrandStop.TheVariants as stop
-use Rattle.hh_desk.specs.declared.told.Told.{Told}
-use Rattle.hh_desk.specs.declared.told.Told.TheVariants.{Replied, Unreadable}
+use Rattle.hh_session.specs.Crashes.{LoadLeaves, RunLeaves}
+use Rattle.hh_session.specs.ErrandCrashes.{EndsBy, ErrandLeaves}
+use Rattle.hh_session.specs.Errands.{ErrandOutcome, ErrandStep, Load, Report, Run, Serve, told_outcome}
+use Rattle.hh_session.specs.errand.ErrandStop.{ErrandStop}
+use Rattle.hh_session.specs.errand.ErrandStop.TheVariants as stop
+use Rattle.hh_session.specs.told.Told.{Told}
+use Rattle.hh_session.specs.told.Told.TheVariants.{Replied, Unreadable}
 use Rattle.hh_sqlstore.specs.Holds.{Holds, TreesHold}
 use Rattle.hh_sqlstore.specs.Leaving.{KeepsHeld}
 use Rattle.hh_session.specs.Script.{IsMarketZone}
 use Rattle.hh_sqlstore.specs.Stores.{IsHonestDisk, Stored, content_in}
+use Rattle.hh_sqlstore.specs.Values.{version}
 use Rattle.hh_kept_office.specs.Crashes.{CountsAs, HoldsWhatCounts, KeptLeaves, ReachedBy}
 use Rattle.hh_kept_office.specs.Kept.{office_of}
 use Rattle.hh_kept_office.specs.steps.Crashes.{ConnectionLeaves, OverLeaves}

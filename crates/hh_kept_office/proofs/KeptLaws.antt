@@ -4,15 +4,15 @@ use Rattle.sqlite.specs.Effect.{Database}
 use Rattle.jiff.specs.declared.tz.timezone.TimeZone.{TimeZone}
 use Rattle.hh_devices.specs.DeviceChanges.{DeviceChange}
 use Rattle.hh_states.specs.Content.{Content}
-use Rattle.hh_desk.specs.Views.{OfficeView}
-use Rattle.hh_keyed_rows.specs.Values.{version}
 use Rattle.hh_host.specs.Views.{HostView}
-use Rattle.hh_desk.specs.Refusals.{CountsMore}
-use Rattle.hh_desk.specs.declared.errand.ErrandStop.{ErrandStop}
-use Rattle.hh_desk.specs.Errands.{EndsErrand, ErrandStep}
-use Rattle.hh_desk.proofs.EndLaws.{ends_alike, ends_then}
+use Rattle.hh_session.specs.Refusals.{CountsMore}
+use Rattle.hh_session.specs.errand.ErrandStop.{ErrandStop}
+use Rattle.hh_session.specs.Errands.{EndsErrand, ErrandStep}
+use Rattle.hh_session.proofs.EndLaws.{ends_alike, ends_then}
 use Rattle.hh_sqlstore.specs.Holds.{Holds}
+use Rattle.hh_sqlstore.specs.Values.{version}
 use Rattle.hh_session.specs.Script.{IsMarketZone}
+use Rattle.hh_session.specs.Views.{OfficeView}
 use Rattle.hh_kept_office.specs.Kept.{EndsKept, EndsOver, LeavesKept, office_of}
 
 -- the tables that the office returns have the content that it had

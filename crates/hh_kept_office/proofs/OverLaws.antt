@@ -7,14 +7,14 @@ use Rattle.hh_time.specs.Zone.{midnight_in}
 use Rattle.hh_states.specs.Changes.{TablesRepresent}
 use Rattle.hh_states.specs.Content.{Content}
 use Rattle.hh_states.specs.States.{State}
-use Rattle.hh_desk.specs.Views.{OfficeView, midnight_of}
 use Rattle.hh_host.specs.Views.{HostView}
-use Rattle.hh_desk.specs.Promises.{RepresentsNow}
 use Rattle.hh_script.specs.Steps.{Step}
 use Rattle.hh_session.specs.declared.run.LinesStop.{LinesStop}
 use Rattle.hh_session.specs.declared.run.LinesStop.TheVariants.{Line, Output}
 use Rattle.hh_session.specs.Course.{EndsEarly, LastNotDone, RunsScript, StopsScript}
 use Rattle.hh_session.specs.Script.{IsMarketZone}
+use Rattle.hh_session.specs.Views.{OfficeView, midnight_of}
+use Rattle.hh_session.specs.Promises.{RepresentsNow}
 use Rattle.hh_kept_office.specs.steps.Running.{EarlyBetween, RunsOver, StopsOver}
 
 module _ (host : HostView) (fails : Type 0) (zone : TimeZone) (market : IsMarketZone zone)

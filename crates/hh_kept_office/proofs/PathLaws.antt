@@ -5,8 +5,8 @@ use Rattle.std.specs.Io.KnownBytes.{Appends}
 use Rattle.hh_devices.specs.DeviceChanges.{DeviceChange}
 use Rattle.hh_devices.specs.Devices.{AppendsFront}
 use Rattle.hh_rows.specs.declared.settings.Settings.{Settings}
-use Rattle.hh_desk.specs.declared.errand.ErrandStop.{ErrandStop}
-use Rattle.hh_desk.specs.declared.errand.ErrandStop.TheVariants as stop
+use Rattle.hh_session.specs.errand.ErrandStop.{ErrandStop}
+use Rattle.hh_session.specs.errand.ErrandStop.TheVariants as stop
 use Rattle.hh_sqlstore.specs.Holds.{IsNewOffice}
 use Rattle.hh_kept_office.specs.Kept.{ready_line}
 use Rattle.hh_kept_office.specs.Paths.{IsPutAway, MakesKept}

@@ -12,11 +12,11 @@ use Rattle.hh_states.specs.Changes.{TablesRepresent}
 use Rattle.hh_states.specs.Content.{Content, tables_of}
 use Rattle.hh_states.specs.States.{State, empty_state}
 use Rattle.hh_states.specs.Steps.{at_first}
-use Rattle.hh_keyed_rows.specs.Values.{version}
+use Rattle.hh_sqlstore.specs.Values.{version}
 use Rattle.hh_sqlstore.specs.Holds.{Holds}
 use Rattle.hh_host.specs.Views.{HostView}
-use Rattle.hh_desk.specs.Headline.{ReachedConserve}
-use Rattle.hh_desk.specs.Refusals.{CountsMore}
+use Rattle.hh_session.specs.Headline.{ReachedConserve}
+use Rattle.hh_session.specs.Refusals.{CountsMore}
 use Rattle.hh_script.specs.Steps.{Step}
 use Rattle.hh_session.specs.declared.run.LinesStop.{LinesStop}
 use Rattle.hh_session.specs.declared.run.LinesStop.TheVariants.{Line, Output}

@@ -6,13 +6,13 @@ use Rattle.jiff.specs.Words.{plain_zone}
 use Rattle.hh_devices.specs.DeviceChanges.{DeviceChange}
 use Rattle.hh_time.specs.Zone.{midnight_in}
 use Rattle.hh_states.specs.Content.{Content}
-use Rattle.hh_keyed_rows.specs.Values.{version}
 use Rattle.hh_host.specs.Views.{HostView}
 use Rattle.hh_script.specs.Steps.{Step}
 use Rattle.hh_session.proofs.GivingUpLaws.{script_then}
 use Rattle.hh_session.specs.Course.{AllDone, AllDoneButLast, LastNotDone, cut_after}
 use Rattle.hh_sqlstore.specs.Holds.{Holds}
 use Rattle.hh_sqlstore.specs.Leaving.{IsTakenOver}
+use Rattle.hh_sqlstore.specs.Values.{version}
 use Rattle.hh_kept_office.specs.declared.stop.DatabaseStop.{DatabaseStop}
 use Rattle.hh_kept_office.specs.declared.stop.DatabaseStop.TheVariants as database
 use Rattle.hh_kept_office.specs.Running.{CutsOver, EarlyOver, IfEarly, WereRefused, WritesOver}

@@ -8,16 +8,16 @@ use Rattle.hh_states.specs.Content.{Content, tables_of}
 use Rattle.hh_states.specs.States.{State}
 use Rattle.hh_store.specs.declared.store_fault.StoreFault.{StoreFault}
 use Rattle.hh_store.specs.StoreFaults.{store_fault}
-use Rattle.hh_keyed_rows.specs.Values.{version}
-use Rattle.hh_desk.specs.Machine.{next}
-use Rattle.hh_desk.specs.Promises.{Represents, gives_up}
-use Rattle.hh_desk.specs.Views.{midnight_of}
+use Rattle.hh_session.specs.Machine.{next}
+use Rattle.hh_session.specs.Promises.{Represents, gives_up}
+use Rattle.hh_session.specs.Views.{midnight_of}
 use Rattle.hh_host.specs.Views.{HostView}
-use Rattle.hh_desk.specs.Doing.{request_for, request_of}
-use Rattle.hh_desk.specs.Errands.{ErrandStep, Load, Report, Run, Serve}
-use Rattle.hh_desk.specs.declared.errand.ErrandStop.{ErrandStop}
-use Rattle.hh_desk.specs.declared.errand.ErrandStop.TheVariants as stop
+use Rattle.hh_session.specs.Doing.{request_for, request_of}
+use Rattle.hh_session.specs.Errands.{ErrandStep, Load, Report, Run, Serve}
+use Rattle.hh_session.specs.errand.ErrandStop.{ErrandStop}
+use Rattle.hh_session.specs.errand.ErrandStop.TheVariants as stop
 use Rattle.hh_sqlstore.specs.Holds.{Holds, TreesHold}
+use Rattle.hh_sqlstore.specs.Values.{version}
 use Rattle.hh_session.specs.Script.{IsMarketZone}
 use Rattle.hh_kept_office.specs.Kept.{office_of}
 

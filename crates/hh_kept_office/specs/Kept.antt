@@ -6,14 +6,14 @@ use Rattle.hh_devices.specs.DeviceChanges.{DeviceChange}
 use Rattle.hh_states.specs.Content.{Content}
 use Rattle.hh_store.specs.declared.store_fault.StoreFault.{StoreFault}
 use Rattle.hh_store.specs.StoreFaults.{store_fault}
-use Rattle.hh_desk.specs.Views.{OfficeView}
-use Rattle.hh_keyed_rows.specs.Values.{version}
 use Rattle.hh_host.specs.Views.{HostView}
-use Rattle.hh_desk.specs.declared.errand.ErrandStop.{ErrandStop}
-use Rattle.hh_desk.specs.declared.errand.ErrandStop.TheVariants as stop
-use Rattle.hh_desk.specs.Errands.{EndsErrand, ErrandStep}
+use Rattle.hh_session.specs.errand.ErrandStop.{ErrandStop}
+use Rattle.hh_session.specs.errand.ErrandStop.TheVariants as stop
+use Rattle.hh_session.specs.Errands.{EndsErrand, ErrandStep}
 use Rattle.hh_sqlstore.specs.Holds.{Holds}
+use Rattle.hh_sqlstore.specs.Values.{version}
 use Rattle.hh_session.specs.Script.{IsMarketZone}
+use Rattle.hh_session.specs.Views.{OfficeView}
 
 -- an office in the zone of the market
 abbrev pub office_of : TimeZone → Content → OfficeView

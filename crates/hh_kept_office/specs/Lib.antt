@@ -5,10 +5,10 @@ pub mod Places
 pub mod Running
 pub mod Scripts
 pub mod steps
-pub use Rattle.hh_desk.specs.Errands
-pub use Rattle.hh_desk.specs.declared.errand
+pub use Rattle.hh_session.specs.errand
 pub use Rattle.hh_session.specs.declared.run
 pub use Rattle.hh_session.specs.declared.script
+pub use Rattle.hh_session.specs.Errands
+pub use Rattle.hh_session.specs.Refusals
 pub use Rattle.hh_session.specs.Script
-pub use Rattle.hh_desk.specs.Refusals
-pub use Rattle.hh_desk.specs.Views
+pub use Rattle.hh_session.specs.Views

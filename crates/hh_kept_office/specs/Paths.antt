@@ -7,9 +7,9 @@ use Rattle.hh_rows.specs.declared.settings.Settings.{Settings}
 use Rattle.hh_store.specs.declared.store_fault.StoreFault.{StoreFault}
 use Rattle.hh_store.specs.StoreFaults.{store_fault}
 use Rattle.hh_host.specs.Views.{HostView}
-use Rattle.hh_desk.specs.declared.errand.ErrandStop.{ErrandStop}
-use Rattle.hh_desk.specs.declared.errand.ErrandStop.TheVariants as stop
-use Rattle.hh_desk.specs.Errands.{ErrandStep}
+use Rattle.hh_session.specs.errand.ErrandStop.{ErrandStop}
+use Rattle.hh_session.specs.errand.ErrandStop.TheVariants as stop
+use Rattle.hh_session.specs.Errands.{ErrandStep}
 use Rattle.hh_sqlstore.specs.Holds.{IsNewOffice}
 use Rattle.hh_kept_office.specs.declared.path.PathStop.{PathStop}
 use Rattle.hh_kept_office.specs.declared.path.PathStop.TheVariants.{Errand, Exists, NoFile}

@@ -12,15 +12,15 @@ use Rattle.hh_rows.specs.declared.settings.Settings.{Settings}
 use Rattle.hh_states.specs.Changes.{TablesRepresent}
 use Rattle.hh_states.specs.Content.{Content, tables_of}
 use Rattle.hh_states.specs.States.{State, empty_state}
-use Rattle.hh_keyed_rows.specs.Values.{version}
+use Rattle.hh_sqlstore.specs.Values.{version}
 use Rattle.hh_sqlstore.specs.Holds.{Holds}
 use Rattle.hh_host.specs.Views.{HostView}
-use Rattle.hh_desk.specs.Headline.{Conserves}
 use Rattle.hh_script.specs.Steps.{Step}
 use Rattle.hh_session.specs.declared.run.LinesStop.{LinesStop}
 use Rattle.hh_session.specs.declared.run.LinesStop.TheVariants.{Line, Output}
 use Rattle.hh_session.specs.Course.{AllDoneButLast, LastNotDone, MayStopBehind, ScriptDoes, cut_after}
 use Rattle.hh_session.specs.Script.{IsMarketZone}
+use Rattle.hh_session.specs.Headline.{Conserves}
 use Rattle.hh_kept_office.specs.declared.stop.DatabaseStop.{DatabaseStop}
 use Rattle.hh_kept_office.specs.declared.stop.DatabaseStop.TheVariants.{Early, Refused}
 

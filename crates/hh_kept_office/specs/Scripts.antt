@@ -5,11 +5,11 @@ use Rattle.hh_devices.specs.DeviceChanges.{DeviceChange}
 use Rattle.hh_states.specs.Content.{Content}
 use Rattle.hh_store.specs.declared.store_fault.StoreFault.{StoreFault}
 use Rattle.hh_store.specs.StoreFaults.{store_fault}
-use Rattle.hh_keyed_rows.specs.Values.{version}
 use Rattle.hh_host.specs.Views.{HostView}
 use Rattle.hh_script.specs.Steps.{Step}
 use Rattle.hh_session.specs.Course.{AllDone}
 use Rattle.hh_sqlstore.specs.Holds.{Holds}
+use Rattle.hh_sqlstore.specs.Values.{version}
 use Rattle.hh_kept_office.specs.Running.{EarlyOver, WritesOver}
 use Rattle.hh_session.specs.Script.{IsScript, IsUnread}
 use Rattle.hh_session.specs.ScriptStops.{IsUnrun}

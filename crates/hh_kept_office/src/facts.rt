@@ -2,9 +2,9 @@
 //! is.
 
 use crate::place::DatabaseHost;
-use hh_desk::Office;
 use hh_names::FileName;
 use hh_rows::{FileKind, LeadMinutes};
+use hh_session::Office;
 use hh_sqlstore::{Rising, SqlTables};
 use hh_store::Tables;
 use hh_time::{SettlementDate, london};

@@ -16,8 +16,9 @@ mod system;
 
 pub use errands::run_errand_in_database;
 pub use facts::{Lateness, lateness_at, missing_readings_at};
-pub use hh_desk::{Errand, ErrandStop, Office, Serving};
-pub use hh_session::{Came, LinesStop, NoNotes, Notes, ScriptStop, run_script};
+pub use hh_session::{
+    Came, Errand, ErrandStop, LinesStop, NoNotes, Notes, Office, ScriptStop, Serving, run_script,
+};
 pub use hh_sqlstore::Rising;
 pub use making::make_office_in_database;
 pub use path::{PathStop, make_office_at, run_errand_at};

@@ -3,16 +3,15 @@
 ghost use Rattle.std.specs.Prelude.{◌≡◌, map, IfErr, IsErrOf, IsTrue, OnOk};
 ghost use Rattle.hh_devices.specs.DeviceChanges.{change};
 ghost use Rattle.hh_devices.specs.Devices.{Failed};
-ghost use Rattle.hh_desk.specs.Refusals.{CountsMore};
 ghost use Rattle.hh_script.specs.Steps.{step_of};
 ghost use Rattle.hh_session.specs.Course.{AllDone};
+ghost use Rattle.hh_session.specs.Refusals.{CountsMore};
 ghost use Rattle.hh_kept_office.specs.steps.Running.{EarlyBetween, RunsOver};
 
-use hh_desk::Office;
 use hh_devices::Sink;
 use hh_host::Host;
 use hh_script::ScriptLine;
-use hh_session::{LinesStop, Notes, run_lines};
+use hh_session::{LinesStop, Notes, Office, run_lines};
 use hh_store::Tables;
 use hh_time::london;
 use std::alloc::Global;

@@ -12,10 +12,10 @@ ghost use Rattle.hh_sqlstore.specs.Making.{MayMake};
 ghost use Rattle.hh_sqlstore.specs.OfficeSchema.{nothing};
 ghost use Rattle.hh_kept_office.specs.Kept.{ready_line};
 
-use hh_desk::ErrandStop;
 use hh_devices::{Sink, write_whole};
 use hh_names::Fault;
 use hh_rows::Settings;
+use hh_session::ErrandStop;
 use hh_sqlstore::SqlTables;
 use sqlite::{Alter, Connection};
 use std::alloc::Global;

@@ -3,14 +3,14 @@
 ghost use Rattle.std.specs.Prelude.{◌≡◌, ◌≢◌, ◌⊎◌, IfErr, IsErrOf, IsTrue, OnOk};
 ghost use Rattle.hh_devices.specs.DeviceChanges.{change};
 ghost use Rattle.hh_devices.specs.Devices.{Failed};
-ghost use Rattle.hh_desk.specs.Refusals.{CountsMore};
-ghost use Rattle.hh_desk.specs.Errands.{IsReport, errand_of};
+ghost use Rattle.hh_session.specs.Refusals.{CountsMore};
+ghost use Rattle.hh_session.specs.Errands.{IsReport, errand_of};
 ghost use Rattle.hh_kept_office.specs.Kept.{EndsOver};
 ghost use Rattle.hh_kept_office.specs.steps.Crashes.{OverLeaves};
 
-use hh_desk::{Errand, ErrandStop, Office, run_errand};
 use hh_devices::Sink;
 use hh_host::Host;
+use hh_session::{Errand, ErrandStop, Office, run_errand};
 use hh_store::Tables;
 use hh_time::london;
 use std::alloc::Global;

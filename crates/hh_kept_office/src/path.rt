@@ -2,17 +2,17 @@
 
 ghost use Rattle.std.specs.Prelude.{◌≡◌, ◌≢◌, ◌⊎◌, IfErr, OnOk};
 ghost use Rattle.hh_devices.specs.DeviceChanges.{change};
-ghost use Rattle.hh_desk.specs.Errands.{IsReport, errand_of};
+ghost use Rattle.hh_session.specs.Errands.{IsReport, errand_of};
 ghost use Rattle.hh_kept_office.specs.Paths.{EndsAt, IsPutAway, MakesAt};
 ghost use Rattle.hh_kept_office.specs.Places.{places_of, shown_by};
 
 use crate::errands::run_errand_in_database;
 use crate::making::make_office_in_database;
 use crate::place::DatabaseHost;
-use hh_desk::{Errand, ErrandStop};
 use hh_devices::Sink;
 use hh_names::Fault;
 use hh_rows::Settings;
+use hh_session::{Errand, ErrandStop};
 use hh_sqlstore::Rising;
 use hh_store::StoreFault;
 use sqlite::Connection;

@@ -3,7 +3,7 @@
 
 ghost use Rattle.std.specs.Prelude.{◌≡◌, IsTrue};
 ghost use Rattle.sqlite.specs.Held.{state};
-ghost use Rattle.hh_keyed_rows.specs.Values.{version};
+ghost use Rattle.hh_sqlstore.specs.Values.{version};
 ghost use Rattle.hh_sqlstore.specs.Holds.{Holds};
 ghost use Rattle.hh_sqlstore.specs.Stores.{content_in};
 

@@ -9,11 +9,11 @@ use Rattle.hh_tables.specs.Tables.{Table}
 use Rattle.hh_names.specs.declared.account.Account.{Account}
 use Rattle.hh_rows.specs.declared.rows.PartyRegistration.{PartyRegistration}
 use Rattle.hh_calc.specs.Formulas.{if_same_account}
-use Rattle.hh_reports.specs.Exports.{balances_text}
-use Rattle.hh_reports.specs.Nets.{Amounts, sum_for}
-use Rattle.hh_reports.specs.Output.{CountsFault}
-use Rattle.hh_reports.specs.declared.fault.ReportFault.{ReportFault}
-use Rattle.hh_reports.specs.declared.fault.ReportFault.TheVariants as report
+use Rattle.hh_store.specs.Exports.{balances_text}
+use Rattle.hh_store.specs.Nets.{Amounts, sum_for}
+use Rattle.hh_store.specs.Output.{CountsFault}
+use Rattle.hh_store.specs.fault.ReportFault.{ReportFault}
+use Rattle.hh_store.specs.fault.ReportFault.TheVariants as report
 use Rattle.hh_states.specs.declared.run_keys.PostingKey.{PostingKey}
 use Rattle.hh_states.specs.Reads.{posting_to}
 use Rattle.hh_states.proofs.ReadLaws.{postings_read}

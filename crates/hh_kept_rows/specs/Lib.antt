@@ -3,7 +3,15 @@ pub mod DayRows
 pub mod Parts
 pub mod Reports
 pub mod steps
+pub use Rattle.hh_beside.specs.DayLaws
 pub use Rattle.hh_beside.specs.Keeping
 pub use Rattle.hh_beside.specs.Laws
-pub use Rattle.hh_beside.specs.DayLaws
 pub use Rattle.hh_beside.specs.PositionLaws
+pub use Rattle.hh_store.specs.declared.output_fault
+pub use Rattle.hh_store.specs.declared.store_fault
+pub use Rattle.hh_store.specs.Crashes
+pub use Rattle.hh_store.specs.DayReads
+pub use Rattle.hh_store.specs.Outputs
+pub use Rattle.hh_store.specs.OwnRows
+pub use Rattle.hh_store.specs.Reached
+pub use Rattle.hh_store.specs.StoreFaults

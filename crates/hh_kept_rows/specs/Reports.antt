@@ -3,7 +3,7 @@ use Rattle.std.specs.Prelude.{ℕ, ℤ, List, filter_map, map}
 use Rattle.hh_num.specs.Totals.{total}
 use Rattle.hh_tables.specs.Tables.{Table}
 use Rattle.hh_rows.specs.declared.rows.PartyRegistration.{PartyRegistration}
-use Rattle.hh_reports.specs.Exports.{balances_text}
+use Rattle.hh_store.specs.Exports.{balances_text}
 use Rattle.hh_states.specs.declared.run_keys.PostingKey.{PostingKey}
 use Rattle.hh_states.specs.Reads.{posting_to}
 

@@ -2,8 +2,8 @@
 
 ghost use Rattle.std.specs.Prelude.{◌≡◌, ◌≢◌, map, IfErr, IfOk};
 ghost use Rattle.hh_devices.specs.DeviceChanges.{change};
-ghost use Rattle.hh_reports.specs.DayReport.{day_report_text};
-ghost use Rattle.hh_reports.specs.Exports.{results_text};
+ghost use Rattle.hh_store.specs.DayReport.{day_report_text};
+ghost use Rattle.hh_store.specs.Exports.{results_text};
 ghost use Rattle.hh_store.specs.Outputs.{Outputs, reported_as};
 ghost use Rattle.hh_kept_rows.specs.Reports.{balances_by};
 
@@ -11,11 +11,10 @@ use hh_calc::AccountRow;
 use hh_devices::Sink;
 use hh_names::{Account, PartyId, PeriodNumber};
 use hh_num::Pence;
-use hh_reports::{write_balances, write_day_report, write_results};
 use hh_rows::PartyRegistration;
 use hh_runs::{RunKey, Summary};
 use hh_states::PostingKey;
-use hh_store::{OutputFault, reported_as};
+use hh_store::{OutputFault, reported_as, write_balances, write_day_report, write_results};
 use std::alloc::{AllocError, Global};
 
 /// Writes the results of a run with this summary and these rows.

@@ -32,7 +32,7 @@ use Rattle.hh_keyed_rows.specs.Codecs.{Codec, IsCodec, places_from}
 use Rattle.hh_keyed_rows.specs.KeyedRows.{stored_entry, table_in}
 use Rattle.hh_keyed_rows.specs.Puts.{stored_in, PutsRow}
 use Rattle.hh_keyed_rows.proofs.CodecLaws.{entry_written, entry_only}
-use Rattle.hh_keyed_rows.proofs.KeyLaws.{matches, matches_by, table_in-replaced}
+use Rattle.hh_keyed_rows.proofs.WriteLaws.{matches, matches_by, table_in-replaced}
 use Rattle.hh_keyed_rows.proofs.PlaceLaws.{agree_same, agree_there, equal_ints, is_Equal}
 
 -- ---- which rows are replaced

@@ -23,7 +23,7 @@ use Rattle.sqlite_rules.proofs.ListLemmas.{all_has, some_from}
 use Rattle.sqlite_rules.proofs.TableLemmas.{int_is}
 use Rattle.hh_keyed_rows.specs.Codecs.{Codec, IsCodec, places_from}
 use Rattle.hh_keyed_rows.specs.KeyedRows.{stored_entry}
-use Rattle.hh_keyed_rows.proofs.KeyLaws.{matches}
+use Rattle.hh_keyed_rows.proofs.WriteLaws.{matches}
 use Rattle.hh_keyed_rows.proofs.PlaceLaws.{agree_there, column_at, drop_next, is_Equal, truth_of}
 use Rattle.hh_keyed_rows.proofs.ReplaceLaws.{matched}
 

@@ -27,7 +27,7 @@ use Rattle.hh_tables.specs.Tables.{in_key_order}
 use Rattle.hh_keyed_rows.specs.Codecs.{Codec, IsCodec}
 use Rattle.hh_keyed_rows.specs.KeyedRows.{entry_in, stored_entry, table_in}
 use Rattle.hh_keyed_rows.proofs.CodecLaws.{entry_only}
-use Rattle.hh_keyed_rows.proofs.KeyLaws.{matches, matches_by, value_of, look, find-look}
+use Rattle.hh_keyed_rows.proofs.WriteLaws.{matches, matches_by, value_of, look, find-look}
 
 -- ---- lists
 

@@ -19,7 +19,10 @@ pub use amounts::AccountAmounts;
 pub use columned::Columned;
 pub use columns::Columns;
 pub use entries::{columns_of, read_entries, read_entry};
-pub use hh_store::{KeptFile, LoadChange, OutputFault, RunChange};
+pub use hh_store::{
+    CreditKey, FileKey, KeptFile, LoadChange, OutputFault, Position, PositionKey, PostingKey,
+    ResultKey, RunChange,
+};
 pub use laws::{
     column_codecs, gets_find, key_codecs, keys_told_apart, puts_replace, rows_in_any_order,
     rows_read_back, value_codecs,

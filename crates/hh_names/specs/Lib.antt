@@ -5,3 +5,7 @@ pub mod Faults
 pub mod Fields
 pub mod PartyAccounts
 pub mod Words
+pub use Rattle.hh_num.specs.Naturals
+pub use Rattle.hh_num.specs.Quantities
+pub use Rattle.hh_num.specs.Ranges
+pub use Rattle.hh_num.specs.Totals

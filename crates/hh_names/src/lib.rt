@@ -13,6 +13,7 @@ mod yes_no;
 
 pub use account::{Account, Side};
 pub use fault::{Fault, Refusal};
+pub use hh_num::{Kwh, NetKwh, Pence, Percent, Price, Quantity, Scaled, Ticks, read_natural};
 pub use operator_key::OperatorKey;
 pub use period_number::PeriodNumber;
 pub use values::{Contract, Counterparties, Reading, Reallocation};

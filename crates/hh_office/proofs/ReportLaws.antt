@@ -10,9 +10,9 @@ use Rattle.hh_time.specs.Days.{Midnights}
 use Rattle.hh_calc.specs.declared.result.AccountRow.{AccountRow}
 use Rattle.hh_runs.specs.declared.summary.Summary.{Summary}
 use Rattle.hh_runs.specs.declared.run_key.RunKey.{RunKey}
-use Rattle.hh_reports.specs.declared.run.ReportedRun.{ReportedRun}
-use Rattle.hh_reports.specs.DayReport.{day_report_text}
-use Rattle.hh_reports.specs.Exports.{balances_text, results_text}
+use Rattle.hh_store.specs.run.ReportedRun.{ReportedRun}
+use Rattle.hh_store.specs.DayReport.{day_report_text}
+use Rattle.hh_store.specs.Exports.{balances_text, results_text}
 use Rattle.hh_states.specs.Content.{tables_of}
 use Rattle.hh_states.specs.Reads.{results_in}
 use Rattle.hh_states.specs.RunReads.{HoldsPostings, HoldsResults, HoldsSummaries, rows_in_run}

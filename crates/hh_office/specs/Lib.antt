@@ -10,5 +10,8 @@ pub mod Runs
 pub mod Transitions
 pub mod Views
 pub mod steps
+pub use Rattle.hh_states.specs.Content
+pub use Rattle.hh_states.specs.States
+pub use Rattle.hh_store.specs.Reached
 pub use Rattle.hh_store.specs.StoreFaults
 pub use Rattle.hh_day.specs.Headline

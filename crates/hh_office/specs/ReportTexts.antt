@@ -3,9 +3,9 @@ use Rattle.std.specs.Prelude.{◌≡◌, ℕ, List, map, find, Option, option_ma
 use Rattle.std.specs.Ordering.{eq_by_cmp}
 use Rattle.hh_time.specs.Days.{Midnights, period_count}
 use Rattle.hh_runs.specs.declared.run_key.RunKey.{RunKey}
-use Rattle.hh_reports.specs.declared.run.ReportedRun.{ReportedRun}
-use Rattle.hh_reports.specs.DayReport.{day_report_text}
-use Rattle.hh_reports.specs.Exports.{balances_text, results_text}
+use Rattle.hh_store.specs.run.ReportedRun.{ReportedRun}
+use Rattle.hh_store.specs.DayReport.{day_report_text}
+use Rattle.hh_store.specs.Exports.{balances_text, results_text}
 use Rattle.hh_states.specs.Content.{tables_of}
 use Rattle.hh_states.specs.RunReads.{rows_in_run}
 use Rattle.hh_states.specs.Runs.{Run, run_key_cmp}

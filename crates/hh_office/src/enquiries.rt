@@ -18,13 +18,11 @@ ghost use Rattle.hh_office.specs.Views.{IsSure};
 
 use crate::office::Office;
 use hh_calc::AccountRow;
+use hh_day::{balances_within, kept_kinds_of_dates, kept_postings, kept_results, paid_within};
 use hh_names::{Account, Fault, PeriodNumber, Refusal};
 use hh_num::Pence;
 use hh_requests::{AccountReply, ContractsReply, Reply, RunsReply};
 use hh_runs::{DayNet, RunKey, RunKind, Summary};
-use hh_state_laws::{
-    balances_within, kept_kinds_of_dates, kept_postings, kept_results, paid_within,
-};
 use hh_store::{StoreFault, Tables};
 use hh_time::SettlementDate;
 use std::alloc::{AllocError, Global};

@@ -18,11 +18,11 @@ ghost use Rattle.hh_office.specs.steps.Promises.{FollowsMachine, reply_of};
 ghost use Rattle.hh_office.specs.Views.{IsSure};
 
 use crate::office::Office;
+use hh_day::{kept_files, load_effect};
 use hh_names::{Fault, Refusal};
 use hh_requests::{Action, Loaded, Reply, Request, Upload};
 use hh_rows::Row;
 use hh_rules::{FileRows, Register};
-use hh_state_laws::{kept_files, load_effect};
 use hh_store::{KeptFile, LoadChange, StoreFault, Tables};
 use hh_texts::{MOST_BYTES, read_file};
 use std::alloc::AllocError;

@@ -12,13 +12,12 @@ ghost use Rattle.hh_office.specs.Refusals.{CountsReplies, CountsReply, Represent
 ghost use Rattle.hh_office.specs.Views.{IsSure};
 
 use crate::loads::is_named;
-use hh_day::reached_conserve;
+use hh_day::{
+    accepted_files_in_range, kept_postings, kept_results, kept_summaries, keys_never_meet,
+    load_effect, reached_conserve, run_effect,
+};
 use hh_names::{Fault, Refusal};
 use hh_requests::{Action, Reply, Request};
-use hh_state_laws::{
-    accepted_files_in_range, kept_postings, kept_results, kept_summaries, keys_never_meet,
-    load_effect, run_effect,
-};
 use hh_store::Tables;
 use jiff::tz::TimeZone;
 use std::alloc::{AllocError, Global};

@@ -2,7 +2,7 @@
 
 ghost use Rattle.hh_office.specs.ReportTexts.{HoldsReports};
 
-use hh_state_laws::{kept_postings, kept_results, kept_summaries};
+use hh_day::{kept_postings, kept_results, kept_summaries};
 
 /// In each state that the machine reaches, the day reports, the results of runs and the balances of parties
 /// that the tables give are those of the state.

@@ -29,13 +29,13 @@ use crate::enquiries::{kinds_of, latest_of};
 use crate::office::Office;
 use hh_calc::AccountRow;
 use hh_day::{
-    SettledDay, SettledPeriod, run_change, runs_fit, settle_day, terms_ready, writes_the_run,
+    SettledDay, SettledPeriod, kept_kinds_of_dates, kept_summaries, periods_ready, run_change,
+    run_effect, runs_fit, settle_day, terms_ready, writes_the_run,
 };
 use hh_names::{Fault, PeriodNumber, Refusal};
 use hh_requests::Reply;
 use hh_rows::{SettlementPeriod, UnitPeriod};
 use hh_runs::{NextRun, RunKey, RunKind, Summary, next_kind};
-use hh_state_laws::{kept_kinds_of_dates, kept_summaries, periods_ready, run_effect};
 use hh_store::{PeriodState, RunChange, StoreFault, Tables};
 use hh_time::{Day, SettlementDate};
 use jiff::tz::TimeZone;

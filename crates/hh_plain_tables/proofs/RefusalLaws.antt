@@ -4,12 +4,12 @@ use Rattle.std.specs.Prelude.{IfErr}
 use Rattle.hh_devices.specs.DeviceChanges.{DeviceChange}
 use Rattle.hh_states.specs.Content.{Content}
 use Rattle.hh_states.specs.Soundness.{AreSound, SoundStates}
-use Rattle.hh_store.specs.Outputs.{CountsOutcome, Outputs}
-use Rattle.hh_store.specs.Reached.{AreReached}
-use Rattle.hh_store.specs.StoreFaults.{CountsRefusal}
-use Rattle.hh_store.specs.declared.output_fault.OutputFault.{OutputFault}
-use Rattle.hh_store.specs.declared.store_fault.StoreFault.{StoreFault}
-use Rattle.hh_store.specs.declared.store_fault.StoreFault.TheVariants.{Memory}
+use Rattle.hh_kept_rows.specs.Outputs.{CountsOutcome, Outputs}
+use Rattle.hh_kept_rows.specs.Reached.{AreReached}
+use Rattle.hh_kept_rows.specs.StoreFaults.{CountsRefusal}
+use Rattle.hh_kept_rows.specs.output_fault.OutputFault.{OutputFault}
+use Rattle.hh_kept_rows.specs.store_fault.StoreFault.{StoreFault}
+use Rattle.hh_kept_rows.specs.store_fault.StoreFault.TheVariants.{Memory}
 
 -- a call that fails only if memory is refused counts no refusal
 pub memory_counts_nothing : {A : Type 0} (n : ℕ) (result : Result A StoreFault) → IfErr result (λ fault. fault ≡ Memory) → CountsRefusal result n n

@@ -6,13 +6,12 @@ ghost use Rattle.hh_states.specs.Changes.{registered_with};
 ghost use Rattle.hh_plain_tables.specs.steps.KeptTables.{with_changed};
 
 use crate::entries::{contracts_of, meters_of, parties_of, prices_of, reallocations_of, units_of};
-use hh_kept_rows::KeptRegister;
+use hh_kept_rows::{KeptRegister, LoadChange};
 use hh_names::{Counterparties, PartyId, Reading, Reallocation, Reference, UnitId};
 use hh_num::{Kwh, Price};
 use hh_rows::{
     ContractKey, PartyRegistration, ReallocationKey, SettlementPeriod, UnitPeriod, UnitRegistration,
 };
-use hh_store::LoadChange;
 use hh_tables::ListTable;
 use std::alloc::{AllocError, Global};
 

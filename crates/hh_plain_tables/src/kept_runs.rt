@@ -10,12 +10,11 @@ ghost use Rattle.hh_plain_tables.specs.steps.KeptRuns.{kept_with, no_runs};
 
 use crate::kept_run::KeptRun;
 use hh_calc::AccountRow;
-use hh_kept_rows::{postings_to, results_of, runs_on};
+use hh_kept_rows::{RunChange, postings_to, results_of, runs_on};
 use hh_names::{Account, PeriodNumber};
 use hh_num::Pence;
 use hh_runs::{RunKey, RunKind, Summary};
 use hh_states::PostingKey;
-use hh_store::RunChange;
 use hh_tables::ListTable;
 use hh_time::SettlementDate;
 use std::alloc::{AllocError, Global};

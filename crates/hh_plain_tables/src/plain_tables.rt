@@ -10,25 +10,26 @@ ghost use Rattle.hh_states.specs.DaySettlement.{periods_on};
 ghost use Rattle.hh_states.specs.Reads.{contracts_in, file_in, is_key_known, party_in, postings_in, reference_in, results_in, runs_in, unit_in, whole_register};
 ghost use Rattle.hh_states.specs.Soundness.{AreSound};
 ghost use Rattle.hh_states.specs.States.{empty_state};
-ghost use Rattle.hh_store.specs.Crashes.{MakesLoad, MakesRun};
-ghost use Rattle.hh_store.specs.DayReads.{IsDayData};
-ghost use Rattle.hh_store.specs.Outputs.{CountsOutcome, Outputs, balances_in, day_report_with, export_with};
-ghost use Rattle.hh_store.specs.Reached.{AreReached};
-ghost use Rattle.hh_store.specs.StoreFaults.{CountsRefusal};
+ghost use Rattle.hh_kept_rows.specs.Crashes.{MakesLoad, MakesRun};
+ghost use Rattle.hh_kept_rows.specs.DayReads.{IsDayData};
+ghost use Rattle.hh_kept_rows.specs.Outputs.{CountsOutcome, Outputs, balances_in, day_report_with, export_with};
+ghost use Rattle.hh_kept_rows.specs.Reached.{AreReached};
+ghost use Rattle.hh_kept_rows.specs.StoreFaults.{CountsRefusal};
 
 use crate::changed_tables::{changed_by, take_over};
 use crate::kept_runs::KeptRuns;
 use hh_calc::AccountRow;
 use hh_devices::Sink;
-use hh_kept_rows::{KeptRegister, write_balances_of, write_day_report_of, write_results_of};
+use hh_kept_rows::{
+    DayData, KeptFile, KeptRegister, LoadChange, OutputFault, RunChange, StoreFault, Tables,
+    sound_states, write_balances_of, write_day_report_of, write_results_of,
+};
 use hh_names::{Account, Counterparties, FileName, PartyId, PeriodNumber, Reference, UnitId};
 use hh_num::Pence;
 use hh_rows::{ContractRow, FileKind, PartyRegistration, Row, Settings, UnitRegistration};
 use hh_rules::Register;
 use hh_runs::{RunKey, RunKind, Summary};
-use hh_state_laws::sound_states;
 use hh_states::FileKey;
-use hh_store::{DayData, KeptFile, LoadChange, OutputFault, RunChange, StoreFault, Tables};
 use hh_tables::ListTable;
 use hh_time::{Day, SettlementDate};
 use std::alloc::Global;

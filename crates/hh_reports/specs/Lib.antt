@@ -6,3 +6,4 @@ pub mod Nets
 pub mod Output
 pub mod Writers
 pub mod steps
+pub use Rattle.hh_calc.specs.declared.result

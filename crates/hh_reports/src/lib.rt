@@ -13,6 +13,7 @@ mod sums;
 pub use day_report::{DayReportWriter, write_day_report};
 pub use exports::{BalancesWriter, ResultsWriter, write_balances, write_results};
 pub use fault::ReportFault;
+pub use hh_calc::AccountRow;
 pub use laws::reports_go_on;
 pub use run::ReportedRun;
 pub use sums::AccountSums;

@@ -1,6 +1,6 @@
 -- What contracts see of replies.
 use Rattle.std.specs.Prelude.{ℕ, ℤ, List}
-use Rattle.hh_names.specs.declared.account.Account.{Account}
+use Rattle.hh_rows.specs.account.Account.{Account}
 use Rattle.hh_rows.specs.declared.rows.ContractRow.{ContractRow}
 use Rattle.hh_calc.specs.declared.result.AccountRow.{AccountRow}
 use Rattle.hh_runs.specs.declared.run_key.RunKey.{RunKey}

@@ -3,9 +3,7 @@
 ghost use Rattle.std.specs.Prelude.{◌≡◌};
 
 use hh_calc::AccountRow;
-use hh_names::{Account, Fault, PeriodNumber};
-use hh_num::Pence;
-use hh_rows::ContractRow;
+use hh_rows::{Account, ContractRow, Fault, Pence, PeriodNumber};
 use hh_runs::{DayNet, RunKey, RunKind, Summary};
 use hh_time::SettlementDate;
 use std::marker::Model;

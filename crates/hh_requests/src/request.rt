@@ -2,8 +2,7 @@
 
 ghost use Rattle.std.specs.Prelude.{◌≡◌};
 
-use hh_names::{Account, FileName};
-use hh_rows::{FileBody, FileKind};
+use hh_rows::{Account, FileBody, FileKind, FileName};
 use hh_runs::RunKey;
 use hh_time::SettlementDate;
 use std::marker::Model;

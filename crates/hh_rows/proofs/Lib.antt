@@ -1,1 +1,2 @@
 pub mod KeyLaws
+pub use Rattle.hh_names.proofs.TotalLaws

@@ -4,3 +4,10 @@ pub mod Kinds
 pub mod Minutes
 pub mod RowKinds
 pub mod Values
+pub use Rattle.hh_time.specs.declared.day
+pub use Rattle.hh_time.specs.Days
+pub use Rattle.hh_time.specs.Zone
+pub use Rattle.hh_names.specs.declared.account
+pub use Rattle.hh_names.specs.Quantities
+pub use Rattle.hh_names.specs.Ranges
+pub use Rattle.hh_names.specs.Totals

@@ -1,7 +1,7 @@
 -- The kind of a row, the rows that a file of a kind can have, and the greatest size of a file.
 use Rattle.std.specs.Prelude.{◌≡◌, ℕ, ◌≤◌, List, length, IsTrue}
 use Rattle.std.specs.List.{AllByRecursion}
-use Rattle.hh_num.specs.Quantities.{prices, volumes}
+use Rattle.hh_names.specs.Quantities.{prices, volumes}
 use Rattle.hh_names.specs.Words.{is_party_id, is_unit_id}
 use Rattle.hh_rows.specs.declared.file_kind.FileKind.{FileKind}
 use Rattle.hh_rows.specs.declared.file_kind.FileKind.TheVariants as kind

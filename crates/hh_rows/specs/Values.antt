@@ -1,7 +1,7 @@
 -- The values that fields of rows and settings can have: each is in the grammar and range of its text.
 use Rattle.std.specs.Prelude.{◌≤◌, ℤ, IsTrue}
-use Rattle.hh_num.specs.Quantities.{Measure, multipliers, percentages, volumes}
-use Rattle.hh_num.specs.Ranges.{IsBetween}
+use Rattle.hh_names.specs.Quantities.{Measure, multipliers, percentages, volumes}
+use Rattle.hh_names.specs.Ranges.{IsBetween}
 use Rattle.hh_time.specs.Days.{is_accepted}
 use Rattle.hh_names.specs.declared.account.Account.{Account}
 use Rattle.hh_names.specs.declared.values.Counterparties.{Counterparties}

@@ -12,6 +12,8 @@ mod settlement_period;
 pub use date_range::DateRange;
 pub use file_body::FileBody;
 pub use file_kind::FileKind;
+pub use hh_names::{Account, Fault, FileName, Kwh, NetKwh, Pence, Percent, PeriodNumber, Price};
+pub use hh_time::{Day, SettlementDate, deadline};
 pub use keys::{ContractKey, ReallocationKey, UnitPeriod};
 pub use rows::{
     ContractRow, MeterRow, PartyRegistration, PartyRow, PriceRow, ReallocationRow, Row,

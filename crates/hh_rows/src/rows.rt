@@ -3,8 +3,7 @@
 use crate::date_range::DateRange;
 use crate::keys::{ContractKey, ReallocationKey, UnitPeriod};
 use crate::settlement_period::SettlementPeriod;
-use hh_names::{AccessKey, Account, Contract, PartyId, Reading, Reallocation, UnitId};
-use hh_num::Price;
+use hh_names::{AccessKey, Account, Contract, PartyId, Price, Reading, Reallocation, UnitId};
 
 /// What is registered of a party: the dates on which it takes part, and the key that it shows
 /// (profile).

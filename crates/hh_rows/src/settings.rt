@@ -4,8 +4,7 @@ ghost use Rattle.std.specs.Prelude.{◌≡◌, ◌≤◌, SomeIff};
 ghost use Rattle.hh_rows.specs.Minutes.{lead_minutes_value};
 ghost use Rattle.hh_rows.specs.Values.{AreSettings};
 
-use hh_names::OperatorKey;
-use hh_num::read_natural;
+use hh_names::{OperatorKey, read_natural};
 use std::marker::Model;
 
 /// The whole minutes by which notifications close before the start of their Settlement Period, 0

@@ -9,3 +9,5 @@ pub mod RowLaws
 pub mod ServingLaws
 pub mod StandingLaws
 pub mod SumFacts
+pub use Rattle.hh_tables.proofs.TableLaws
+pub use Rattle.hh_names.proofs.AccountLaws

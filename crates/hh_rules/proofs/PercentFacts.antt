@@ -9,13 +9,13 @@ use Rattle.std.specs.declared.cmp.Ordering.{Ordering}
 use Rattle.std.specs.declared.cmp.Ordering.TheVariants.{Less, Equal, Greater}
 use Rattle.std.proofs.lemmas.Int.{ints}
 use Rattle.hh_tables.specs.Tables.{Table, IsTable}
-use Rattle.hh_num.proofs.TotalLaws.{total-same}
 use Rattle.hh_names.specs.Accounts.{account_cmp, is_same_account}
 use Rattle.hh_names.proofs.AccountLaws.{account_total}
 use Rattle.hh_rows.specs.Keys.{unit_period_cmp, reallocation_key_cmp}
 use Rattle.hh_rows.proofs.KeyLaws.{unit_period_total, reallocation_key_total}
 use Rattle.hh_rows.specs.declared.keys.UnitPeriod.{UnitPeriod}
 use Rattle.hh_rows.specs.declared.keys.ReallocationKey.{ReallocationKey}
+use Rattle.hh_rows.proofs.TotalLaws.{total-same}
 use Rattle.hh_names.specs.declared.values.Reallocation.{Reallocation}
 use Rattle.hh_rules.specs.Percents.{SumsPercents, is_of_other, percent_at, percent_of_others}
 use Rattle.hh_rules.specs.steps.Percents.{percent_in}

@@ -8,7 +8,6 @@ use Rattle.std.specs.Ordering.{eq_by_cmp}
 use Rattle.std.specs.Int.{w64}
 use Rattle.std.proofs.lemmas.Int.{ints, to_z-of_z}
 use Rattle.std.proofs.lemmas.Map.Lookups.{CmpEqualImpliesEq, exact_pairs}
-use Rattle.hh_num.specs.Ranges.{IsBetween}
 use Rattle.hh_tables.specs.Tables.{Table}
 use Rattle.hh_names.specs.declared.account.Account.{Account}
 use Rattle.hh_names.specs.Accounts.{account_cmp}
@@ -16,6 +15,7 @@ use Rattle.hh_names.proofs.AccountLaws.{account_total, exact_accounts}
 use Rattle.hh_rows.specs.Keys.{settlement_period_cmp}
 use Rattle.hh_rows.specs.declared.rows.ContractRow.{ContractRow}
 use Rattle.hh_rows.specs.declared.settlement_period.SettlementPeriod.{SettlementPeriod}
+use Rattle.hh_rows.specs.Ranges.{IsBetween}
 use Rattle.hh_rows.proofs.KeyLaws.{exact_settlement_periods, settlement_period_total}
 use Rattle.hh_rules.specs.PositionLaws.{LostStaysLost, MovesBothAccounts, MovesNoOther, buyer_key, seller_key}
 use Rattle.hh_rules.specs.Positions.{with_moved, position_in, position_key_cmp, position_plus, volume_of, with_replaced}

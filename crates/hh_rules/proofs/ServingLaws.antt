@@ -8,8 +8,8 @@ use Rattle.std.specs.FinMap.Entries.{find-put, is_sorted-put}
 use Rattle.jiff.specs.declared.tz.timezone.TimeZone.{TimeZone}
 use Rattle.std.specs.Ordering.{eq_by_cmp}
 use Rattle.hh_tables.specs.Tables.{Table, IsTable}
-use Rattle.hh_num.specs.Totals.{total}
-use Rattle.hh_num.proofs.TotalLaws.{total-filter, total-same}
+use Rattle.hh_rows.specs.Totals.{total}
+use Rattle.hh_rows.proofs.TotalLaws.{total-filter, total-same}
 use Rattle.hh_names.specs.declared.fault.Refusal.TheVariants as refusal
 use Rattle.hh_names.specs.declared.values.Reallocation.{Reallocation}
 use Rattle.hh_names.specs.Accounts.{bytes_cmp, is_same_account}
@@ -23,11 +23,11 @@ use Rattle.hh_rows.specs.declared.keys.UnitPeriod.{UnitPeriod}
 use Rattle.hh_rows.specs.declared.keys.ReallocationKey.{ReallocationKey}
 use Rattle.hh_rows.specs.declared.rows.Row.{Row}
 use Rattle.hh_rows.specs.declared.rows.Row.TheVariants as row
+use Rattle.hh_rows.specs.Quantities.{hundred_percent}
 use Rattle.hh_rules.specs.declared.timing.Timing.{Timing}
 use Rattle.hh_rules.specs.History.{Registered}
 use Rattle.hh_rules.specs.Lateness.{accepted_at, comes_in_time, is_in_time, lacks_period, timing_of}
 use Rattle.hh_rules.specs.Percents.{percent_of_others}
-use Rattle.hh_num.specs.Quantities.{hundred_percent}
 use Rattle.hh_rules.specs.Refusals.{Standing, is_some_that, is_unit_moved, most_parties, most_units, refusals_of}
 use Rattle.hh_rules.specs.Effects.{count_new, put_entry, put_in_time, put_new, with_row}
 use Rattle.hh_rules.specs.Entries.{contract_entry, meter_entry, party_entry, price_entry, reallocation_entry, reference_entry, unit_entry}

@@ -8,7 +8,7 @@ use Rattle.std.specs.List.{AllByRecursion}
 use Rattle.std.specs.Ordering.{eq_by_cmp, is_eq, is_lt}
 use Rattle.std.specs.declared.cmp.Ordering.TheVariants.{Less, Equal, Greater}
 use Rattle.std.proofs.lemmas.Int.{ints}
-use Rattle.hh_num.specs.Totals.{total}
+use Rattle.hh_rows.specs.Totals.{total}
 
 pub both_true : (a b : Bool) → T (a && b) → T a × T b
 both_true true b h = (tt, h)

@@ -1,6 +1,6 @@
 -- Whether the Settlement Period of a row exists, and whether the row comes in time for it.
 use Rattle.std.specs.Prelude.{ℕ, ℤ, int_lt, Bool, true, false, if◌then◌else◌}
-use Rattle.hh_time.specs.Days.{Midnights, deadline, has_period}
+use Rattle.hh_rows.specs.Days.{Midnights, deadline, has_period}
 use Rattle.hh_rows.specs.declared.settlement_period.SettlementPeriod.{SettlementPeriod}
 use Rattle.hh_rows.specs.declared.rows.Row.{Row}
 use Rattle.hh_rows.specs.declared.rows.Row.TheVariants as row

@@ -4,11 +4,11 @@ use Rattle.std.specs.FinMap.{find}
 use Rattle.std.specs.List.{AllByRecursion}
 use Rattle.std.specs.Ordering.{eq_by_cmp}
 use Rattle.hh_tables.specs.Tables.{Table, IsTable}
-use Rattle.hh_num.specs.Totals.{total}
 use Rattle.hh_names.specs.Accounts.{is_same_account}
 use Rattle.hh_rows.specs.Keys.{reallocation_key_cmp, unit_period_cmp}
 use Rattle.hh_rows.specs.declared.keys.UnitPeriod.{UnitPeriod}
 use Rattle.hh_rows.specs.declared.keys.ReallocationKey.{ReallocationKey}
+use Rattle.hh_rows.specs.Totals.{total}
 use Rattle.hh_names.specs.declared.values.Reallocation.{Reallocation}
 
 -- the percentage of a unit that is in force in a Settlement Period

@@ -3,8 +3,8 @@ use Rattle.std.specs.Prelude.{◌≡◌, ℤ, pos, ◌+ℤ◌, ◌-ℤ◌, Optio
 use Rattle.std.specs.FinMap.{find, put}
 use Rattle.std.specs.Ordering.{on, then_cmp}
 use Rattle.std.specs.declared.cmp.Ordering.{Ordering}
-use Rattle.hh_num.specs.Quantities.{net_volumes}
-use Rattle.hh_num.specs.Ranges.{is_between}
+use Rattle.hh_rows.specs.Quantities.{net_volumes}
+use Rattle.hh_rows.specs.Ranges.{is_between}
 use Rattle.hh_tables.specs.Tables.{Table}
 use Rattle.hh_names.specs.declared.account.Account.{Account}
 use Rattle.hh_names.specs.Accounts.{account_cmp}

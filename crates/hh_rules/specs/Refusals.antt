@@ -1,7 +1,6 @@
 -- Why a row is refused: the refusals of each kind of row with their conditions, in the order of their numbers.
 use Rattle.std.specs.Prelude.{ℕ, ◌+ℤ◌, nat_le, int_lt, List, [], ◌∷◌, length, Bool, true, false, not, ◌&&◌, ◌||◌, Option, Some, None, is_none}
 use Rattle.std.specs.FinMap.{find}
-use Rattle.hh_num.specs.Quantities.{hundred_percent}
 use Rattle.hh_names.specs.declared.fault.Refusal.{Refusal}
 use Rattle.hh_names.specs.declared.fault.Refusal.TheVariants as refusal
 use Rattle.hh_names.specs.Accounts.{bytes_cmp, is_same_account}
@@ -16,6 +15,7 @@ use Rattle.hh_rows.specs.declared.rows.ContractRow.{ContractRow}
 use Rattle.hh_rows.specs.declared.rows.ReallocationRow.{ReallocationRow}
 use Rattle.hh_rows.specs.declared.rows.PartyRegistration.{PartyRegistration}
 use Rattle.hh_rows.specs.declared.rows.UnitRegistration.{UnitRegistration}
+use Rattle.hh_rows.specs.Quantities.{hundred_percent}
 use Rattle.hh_rules.specs.declared.timing.Timing.{Timing}
 use Rattle.hh_rules.specs.History.{Registered}
 use Rattle.hh_rules.specs.Lateness.{comes_in_time, lacks_period}

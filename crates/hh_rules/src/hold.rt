@@ -6,10 +6,9 @@ ghost use Rattle.hh_rules.specs.RegisterView.{held_reallocation, holding_contrac
 
 use crate::register::Register;
 use hh_names::{Counterparties, Fault, PartyId, Reading, Reallocation, Reference, Refusal, UnitId};
-use hh_num::{Kwh, Price};
 use hh_rows::{
-    ContractKey, PartyRegistration, ReallocationKey, ReallocationRow, SettlementPeriod, UnitPeriod,
-    UnitRegistration,
+    ContractKey, Kwh, PartyRegistration, Price, ReallocationKey, ReallocationRow, SettlementPeriod,
+    UnitPeriod, UnitRegistration,
 };
 use std::alloc::AllocError;
 

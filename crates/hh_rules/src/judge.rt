@@ -14,8 +14,10 @@ use crate::last_asked::LastAsked;
 use crate::register::Register;
 use crate::timing::Timing;
 use hh_names::{Account, Fault, Refusal, UnitId};
-use hh_rows::{ContractRow, MeterRow, PartyRow, ReallocationRow, Row, UnitRegistration, UnitRow};
-use hh_time::SettlementDate;
+use hh_rows::{
+    ContractRow, MeterRow, PartyRow, ReallocationRow, Row, SettlementDate, UnitRegistration,
+    UnitRow,
+};
 use jiff::tz::TimeZone;
 
 /// How many parties there may be.

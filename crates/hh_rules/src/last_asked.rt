@@ -2,7 +2,7 @@
 
 ghost use Rattle.std.specs.Prelude.{◌≡◌, None};
 
-use hh_time::Day;
+use hh_rows::Day;
 
 /// What rows asked for last. The next row mostly asks for the same, or for the one behind it.
 #[derive(Drop)]

@@ -17,9 +17,9 @@ pub use hh_names::{
     PeriodNumber, Reading, Reallocation, Reference, Refusal, Side, UnitId, read_yes_no,
 };
 pub use hh_rows::{
-    ContractKey, ContractRow, DateRange, FileKind, LeadMinutes, MeterRow, PartyRegistration,
-    PartyRow, PriceRow, ReallocationKey, ReallocationRow, Row, Settings, SettlementPeriod,
-    UnitPeriod, UnitRegistration, UnitRow,
+    ContractKey, ContractRow, DateRange, FileBody, FileKind, LeadMinutes, MeterRow,
+    PartyRegistration, PartyRow, PriceRow, ReallocationKey, ReallocationRow, Row, Settings,
+    SettlementPeriod, UnitPeriod, UnitRegistration, UnitRow,
 };
 pub use positions::{Position, PositionKey, Positions, positions_by_keys};
 pub use register::Register;

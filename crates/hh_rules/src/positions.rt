@@ -2,14 +2,13 @@
 
 ghost use Rattle.std.specs.Prelude.{◌≡◌, pos, neg_ℤ, [], option_copied, IfOk, IfSome, OnOk, OnErr};
 ghost use Rattle.std.specs.FinMap.{put};
-ghost use Rattle.hh_num.specs.Ranges.{IsBetween};
+ghost use Rattle.hh_rows.specs.Ranges.{IsBetween};
 ghost use Rattle.hh_rules.specs.PositionLaws.{KnownUntilTooLarge, LostStaysLost, MovesBothAccounts, MovesNoOther};
 ghost use Rattle.hh_rules.specs.Positions.{position_in, position_key, position_key_cmp, position_plus, volume_of, with_replaced, TakesPlaceOf};
 ghost use Rattle.hh_rules.specs.steps.Positions.{IsMove};
 
 use hh_names::Account;
-use hh_num::NetKwh;
-use hh_rows::{ContractRow, SettlementPeriod};
+use hh_rows::{ContractRow, NetKwh, SettlementPeriod};
 use hh_tables::TreeTable;
 use std::alloc::{AllocError, Global};
 use std::marker::Model;

@@ -2,10 +2,10 @@
 
 ghost use Rattle.std.specs.Prelude.{◌≡◌, pos, unwrap_or, true, IfOk, IfErr, OnOk, OnErr};
 ghost use Rattle.std.specs.FinMap.{find};
-ghost use Rattle.hh_num.specs.Ranges.{IsBetween};
 ghost use Rattle.hh_tables.specs.Tables.{IsTable};
 ghost use Rattle.hh_rows.specs.Keys.{contract_key_cmp, reallocation_key_cmp, settlement_period_cmp, unit_period_cmp};
 ghost use Rattle.hh_rows.specs.declared.rows.Row.TheVariants as rows;
+ghost use Rattle.hh_rows.specs.Ranges.{IsBetween};
 ghost use Rattle.hh_names.specs.Accounts.{bytes_cmp};
 ghost use Rattle.hh_names.specs.Faults.{faults, IsOutcomeOrNoMemory};
 ghost use Rattle.hh_rules.specs.Effects.{fixes_reference, row_done};
@@ -17,10 +17,10 @@ ghost use Rattle.hh_rules.specs.RegisterView.{after_row, done_at, empty_part, em
 use crate::last_asked::LastAsked;
 use crate::row_done::RowDone;
 use hh_names::{Counterparties, Fault, PartyId, Reading, Reallocation, Reference, UnitId};
-use hh_num::{Kwh, Percent, Price};
 use hh_rows::{
-    ContractKey, ContractRow, LeadMinutes, MeterRow, PartyRegistration, PartyRow, PriceRow,
-    ReallocationKey, ReallocationRow, Row, SettlementPeriod, UnitPeriod, UnitRegistration, UnitRow,
+    ContractKey, ContractRow, Kwh, LeadMinutes, MeterRow, PartyRegistration, PartyRow, Percent,
+    Price, PriceRow, ReallocationKey, ReallocationRow, Row, SettlementPeriod, UnitPeriod,
+    UnitRegistration, UnitRow,
 };
 use hh_tables::{ListTable, TreeTable, put_both};
 use jiff::tz::TimeZone;

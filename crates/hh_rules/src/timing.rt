@@ -2,15 +2,14 @@
 
 ghost use Rattle.std.specs.Prelude.{◌≡◌, true, not, Some, None, IfNone, IfSome};
 ghost use Rattle.jiff.specs.Words.{plain_zone};
-ghost use Rattle.hh_time.specs.Zone.{count_in, midnight_in};
+ghost use Rattle.hh_rows.specs.Zone.{count_in, midnight_in};
 ghost use Rattle.hh_rules.specs.Lateness.{accepted_at, comes_in_time, lacks_period, timing_by, timing_of};
 ghost use Rattle.hh_rules.specs.steps.Lateness.{notification_timing};
 ghost use Rattle.hh_rules.specs.RegisterView.{timetable_in, timetable_of};
 ghost use Rattle.hh_rules.specs.steps.RegisterView.{IsKeptIn};
 
 use crate::register::Register;
-use hh_rows::{LeadMinutes, Row, SettlementPeriod};
-use hh_time::{Day, SettlementDate, deadline};
+use hh_rows::{Day, LeadMinutes, Row, SettlementDate, SettlementPeriod, deadline};
 use jiff::tz::TimeZone;
 
 /// Whether the date of a row has the row's Settlement Period, and whether the row comes in time for it

@@ -2,10 +2,10 @@
 use Rattle.std.specs.Prelude.{ℤ, pos, ◌-ℤ◌, Bool, not, ◌++◌, map, filter, unwrap_or}
 use Rattle.std.specs.FinMap.{find}
 use Rattle.std.specs.Ordering.{int_eq}
-use Rattle.hh_num.specs.Quantities.{Measure, either_sign}
 use Rattle.hh_tables.specs.Tables.{Table, in_key_order}
 use Rattle.hh_names.specs.declared.account.Account.{Account}
 use Rattle.hh_names.specs.Accounts.{account_cmp}
+use Rattle.hh_names.specs.Quantities.{Measure, either_sign}
 
 -- cash over a day: whole pence, at most 10^14 in size
 abbrev pub day_cash : Measure

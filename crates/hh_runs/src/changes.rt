@@ -2,7 +2,7 @@
 
 ghost use Rattle.std.specs.Prelude.{◌≡◌, ◌++◌, [], filter_map, map, IfOk, OnOk};
 ghost use Rattle.hh_names.specs.Accounts.{account_cmp};
-ghost use Rattle.hh_num.specs.Ranges.{IsBetween};
+ghost use Rattle.hh_names.specs.Ranges.{IsBetween};
 ghost use Rattle.hh_tables.specs.Tables.{put_all};
 ghost use Rattle.hh_runs.specs.DayNets.{day_cash, day_net_of, differences, net_change, with_change};
 ghost use Rattle.hh_runs.specs.Postings.{entry_of};
@@ -10,8 +10,7 @@ ghost use Rattle.hh_runs.specs.steps.Postings.{posting_for};
 
 use crate::day_net::{DayNet, DayNetTable};
 use crate::posting::Posting;
-use hh_names::Account;
-use hh_num::Pence;
+use hh_names::{Account, Pence};
 use hh_tables::ListTable;
 use std::alloc::{AllocError, Global};
 

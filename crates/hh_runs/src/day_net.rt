@@ -3,8 +3,7 @@
 ghost use Rattle.std.proofs.Common.{rules};
 ghost use Rattle.hh_runs.specs.DayNets.{day_cash};
 
-use hh_names::Account;
-use hh_num::{Quantity, Scaled};
+use hh_names::{Account, Quantity, Scaled};
 use hh_tables::ListTable;
 
 /// Cash over a Settlement Day: whole pence, at most 10^14 in size, positive if the account pays.

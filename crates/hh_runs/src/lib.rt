@@ -12,6 +12,7 @@ mod summary;
 
 pub use changes::differences;
 pub use day_net::{DayCash, DayNet, DayNetTable};
+pub use hh_names::{Pence, Ticks};
 pub use next_run::NextRun;
 pub use order::next_kind;
 pub use posting::Posting;

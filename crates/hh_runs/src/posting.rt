@@ -1,7 +1,6 @@
 //! What a run posts.
 
-use hh_names::Account;
-use hh_num::Pence;
+use hh_names::{Account, Pence};
 
 /// What a run posts to an account: pence, positive if the account pays more than by the run of the
 /// date before. A run never posts 0 (profile).

@@ -1,6 +1,6 @@
 //! The summary of a run.
 
-use hh_num::Pence;
+use hh_names::Pence;
 
 /// The summary of a run.
 #[derive(Clone, Copy, Debug, PartialEq, Eq)]

@@ -3,3 +3,4 @@ pub mod GivingUpLaws
 mod ReportingLaws
 mod ScriptLaws
 mod ServingLaws
+pub use Rattle.hh_desk.proofs.EndLaws

@@ -10,7 +10,7 @@ use Rattle.hh_names.specs.declared.fault.Refusal.{Refusal}
 use Rattle.hh_names.specs.Faults.{memory_fault, plain_fault}
 use Rattle.hh_requests.specs.declared.reply.Reply.TheVariants as reply
 use Rattle.hh_states.specs.States.{State}
-use Rattle.hh_store.specs.Reached.{AreReached}
+use Rattle.hh_desk.specs.Reached.{AreReached}
 use Rattle.hh_desk.specs.report.ReportStop.TheVariants.{Refused, Write}
 use Rattle.hh_desk.specs.Promises.{Represents, RepresentsNow, gives_up}
 use Rattle.hh_desk.specs.Refusals.{CountsMore, CountsStoreFault, RepresentsSome}

@@ -6,3 +6,14 @@ pub mod Script
 pub mod ScriptStops
 pub mod Serving
 pub mod steps
+pub use Rattle.hh_desk.specs.declared.errand
+pub use Rattle.hh_desk.specs.declared.told
+pub use Rattle.hh_desk.specs.Crashes
+pub use Rattle.hh_desk.specs.Doing
+pub use Rattle.hh_desk.specs.ErrandCrashes
+pub use Rattle.hh_desk.specs.Errands
+pub use Rattle.hh_desk.specs.Headline
+pub use Rattle.hh_desk.specs.Machine
+pub use Rattle.hh_desk.specs.Promises
+pub use Rattle.hh_desk.specs.Refusals
+pub use Rattle.hh_desk.specs.Views

@@ -4,12 +4,11 @@ ghost use Rattle.std.specs.Prelude.{◌≡◌};
 ghost use Rattle.hh_desk.specs.Refusals.{CountsUp};
 ghost use Rattle.hh_desk.specs.Views.{IsSure};
 
-use hh_desk::{Office, Told};
+use hh_desk::{Office, Tables, Told};
 use hh_host::Host;
 use hh_names::Fault;
 use hh_requests::Reply;
 use hh_script::ScriptLine;
-use hh_store::Tables;
 use std::alloc::Global;
 
 /// What came of a line of a script.

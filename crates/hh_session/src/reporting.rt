@@ -11,10 +11,9 @@ ghost use Rattle.hh_session.specs.steps.Reporting.{BeginsReport, RunsReport};
 
 use crate::notes::Came;
 use crate::tell::tell_refused;
-use hh_desk::{Office, ReportStop};
+use hh_desk::{Office, ReportStop, Tables};
 use hh_devices::{DeviceFailed, Sink};
 use hh_script::ReportLine;
-use hh_store::Tables;
 use std::alloc::Global;
 
 /// Writes a report, or the line of its refusal. If the report is given up, a beginning of it may have been

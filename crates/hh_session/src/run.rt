@@ -14,11 +14,10 @@ use crate::notes::{Came, Notes};
 use crate::reporting::write_report;
 use crate::serving::serve_connections;
 use crate::tell::tell;
-use hh_desk::{Office, load_file, make_run, reached_conserve};
+use hh_desk::{Office, Tables, load_file, make_run, reached_conserve};
 use hh_devices::{DeviceFailed, Sink};
 use hh_host::Host;
 use hh_script::ScriptLine;
-use hh_store::Tables;
 use std::alloc::Global;
 
 /// Why the lines of a script are not run to their end.

@@ -9,12 +9,11 @@ ghost use Rattle.hh_session.specs.Came.{was_done};
 ghost use Rattle.hh_session.specs.steps.Serving.{RunsServing, StopsServing};
 
 use crate::notes::Came;
-use hh_desk::{Office, listening_line, serve_each};
+use hh_desk::{Office, Tables, listening_line, serve_each};
 use hh_devices::{DeviceFailed, Sink, write_whole};
 use hh_host::{FixedClock, Host};
 use hh_script::ServeLine;
 use hh_sockets::{Listener, SocketFailed};
-use hh_store::Tables;
 use std::alloc::Global;
 
 /// Listens on a port of the loopback interface and tells which one. Then it serves as many connections as

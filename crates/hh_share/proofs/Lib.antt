@@ -7,3 +7,4 @@ pub mod DepartureLaws
 pub mod ShareFacts
 pub mod PennyLaws
 mod Examples
+pub use Rattle.hh_num.proofs.TotalLaws

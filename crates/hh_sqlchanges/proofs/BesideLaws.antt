@@ -18,13 +18,13 @@ use Rattle.hh_rules.specs.Positions.{position_key_cmp}
 use Rattle.hh_rules.specs.declared.positions.Position.{Position}
 use Rattle.hh_rules.specs.declared.positions.PositionKey.{PositionKey}
 use Rattle.hh_states.specs.Changes.{LoadChangeView, RunChangeView, effect_of_load}
-use Rattle.hh_state_laws.proofs.RisingLaws.{filter-map}
-use Rattle.hh_keyed_rows.specs.declared.no_columns.NoColumns.{NoColumns}
 use Rattle.hh_states.specs.Beside.{is_among}
 use Rattle.hh_beside.specs.DayLaws.{HaveTheSame}
 use Rattle.hh_beside.specs.Keeping.{beside_with_load, beside_with_run, positions_with, touched_by}
 use Rattle.hh_beside.specs.Laws.{AreAlike}
 use Rattle.hh_beside.proofs.AgreeLaws.{among_both, same_with_more}
+use Rattle.hh_beside.proofs.RisingLaws.{filter-map}
+use Rattle.hh_sqlrows.specs.no_columns.NoColumns.{NoColumns}
 use Rattle.hh_sqlrows.specs.Contents.{beside_in}
 use Rattle.hh_sqlrows.specs.Forms.{Puts, PutsAll, Removes, rows_under_keys}
 use Rattle.hh_sqlrows.specs.OfficeTables as forms

@@ -18,8 +18,8 @@ use Rattle.hh_states.specs.Changes.{RunChangeView}
 use Rattle.hh_states.specs.Content.{Content, credit_key_cmp, posting_key_cmp, result_key_cmp}
 use Rattle.hh_states.specs.Runs.{run_key_cmp}
 use Rattle.hh_states.proofs.KeyLaws.{exact_result_keys}
-use Rattle.hh_keyed_rows.specs.declared.amounts.AccountAmounts.{AccountAmounts}
-use Rattle.hh_keyed_rows.specs.Values.{account_row_of, amounts_of}
+use Rattle.hh_sqlrows.specs.amounts.AccountAmounts.{AccountAmounts}
+use Rattle.hh_sqlrows.specs.Values.{account_row_of, amounts_of}
 use Rattle.hh_sqlrows.specs.Contents.{result_of}
 use Rattle.hh_sqlrows.specs.Forms.{Puts, PutsAll}
 use Rattle.hh_sqlrows.specs.OfficeTables as forms

@@ -4,12 +4,12 @@ use Rattle.sqlite_trees.specs.Tree.{Trees}
 use Rattle.sqlite.specs.Effect.{Database}
 use Rattle.hh_rules.specs.History.{Registered}
 use Rattle.hh_states.specs.Content.{Content}
-use Rattle.hh_keyed_rows.specs.KeyedRows.{stored_entry, table_in}
 use Rattle.hh_rows.specs.declared.settings.Settings.{Settings}
 use Rattle.hh_sqlrows.specs.Contents.{beside_in, content_of, registered_of, result_of}
 use Rattle.hh_sqlrows.specs.Forms.{TableForm, KeepsOthers, rows_under_keys}
 use Rattle.hh_sqlrows.specs.Office.{IsOffice}
 use Rattle.hh_sqlrows.specs.OfficeTables as forms
+use Rattle.hh_sqlrows.specs.KeyedRows.{stored_entry, table_in}
 use Rattle.hh_sqlchanges.specs.Writes.{StaysOffice}
 use Rattle.hh_sqlchanges.specs.steps.Becoming.{Becomes}
 

@@ -7,10 +7,9 @@ ghost use Rattle.hh_sqlrows.specs.Statements.{CommitsNothing, Inside, KeepsCommi
 ghost use Rattle.hh_sqlchanges.specs.Writes.{WritesBesideAnew};
 ghost use Rattle.hh_sqlchanges.specs.steps.Becoming.{WritesBeside};
 
-use hh_keyed_rows::RowFault;
 use hh_rows::SettlementPeriod;
 use hh_rules::{Position, PositionKey};
-use hh_sqlrows::{replace_mark, replace_positions, touch_periods};
+use hh_sqlrows::{RowFault, replace_mark, replace_positions, touch_periods};
 use sqlite::{Alter, Transaction};
 use std::alloc::Global;
 

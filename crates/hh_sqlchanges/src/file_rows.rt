@@ -8,13 +8,12 @@ ghost use Rattle.hh_sqlrows.specs.Statements.{CommitsNothing, Inside, KeepsCommi
 ghost use Rattle.hh_sqlchanges.specs.steps.Becoming.{Becomes, BecomesOrLeaves};
 ghost use Rattle.hh_sqlchanges.specs.steps.FileRows.{with_file_row, with_file_rows};
 
-use hh_keyed_rows::RowFault;
 use hh_names::Reading;
 use hh_num::Kwh;
 use hh_rows::{ContractKey, Row, UnitPeriod};
 use hh_sqlrows::{
-    GROUP, insert_contracts, insert_meters, replace_contract, replace_meter, replace_party,
-    replace_price, replace_reallocation, replace_unit,
+    GROUP, RowFault, insert_contracts, insert_meters, replace_contract, replace_meter,
+    replace_party, replace_price, replace_reallocation, replace_unit,
 };
 use sqlite::{Alter, Transaction};
 use std::alloc::{AllocError, Global};

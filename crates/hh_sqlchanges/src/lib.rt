@@ -9,7 +9,7 @@ mod run_writing;
 mod touching;
 
 pub use beside_writing::write_beside_anew;
-pub use hh_state_laws::{load_effect, run_effect};
+pub use hh_beside::{load_effect, run_effect};
 pub use load_writing::write_load;
 pub use own_accounts::rows_of_their_accounts;
 pub use run_writing::write_run;

@@ -10,10 +10,9 @@ ghost use Rattle.hh_sqlchanges.specs.steps.Becoming.{Becomes};
 
 use crate::beside_writing::write_beside;
 use crate::file_rows::write_file_rows;
-use hh_keyed_rows::RowFault;
 use hh_rows::SettlementPeriod;
 use hh_rules::{Position, PositionKey};
-use hh_sqlrows::{LoadChange, replace_file, replace_references};
+use hh_sqlrows::{LoadChange, RowFault, replace_file, replace_references};
 use sqlite::{Alter, Transaction};
 use std::alloc::Global;
 

@@ -7,9 +7,8 @@ ghost use Rattle.hh_sqlrows.specs.Statements.{CommitsNothing, Inside, KeepsCommi
 ghost use Rattle.hh_sqlchanges.specs.Writes.{ChangesByRun};
 ghost use Rattle.hh_sqlchanges.specs.steps.Becoming.{StoresRunAlone};
 
-use hh_keyed_rows::RowFault;
 use hh_sqlrows::{
-    RunChange, insert_credits, insert_postings, insert_results, insert_run, untouch_on,
+    RowFault, RunChange, insert_credits, insert_postings, insert_results, insert_run, untouch_on,
 };
 use sqlite::{Alter, Transaction};
 use std::alloc::Global;

@@ -4,7 +4,7 @@ use Rattle.std.specs.Cmp.{IsTotalOrder}
 use Rattle.std.specs.FinMap.{is_sorted}
 use Rattle.sqlite_trees.specs.Tree.{Trees}
 use Rattle.hh_tables.proofs.TableLaws.{is_sorted-in_key_order}
-use Rattle.hh_keyed_rows.specs.KeyedRows.{stored_entry}
+use Rattle.hh_sqlrows.specs.KeyedRows.{stored_entry}
 use Rattle.hh_sqlrows.specs.Forms.{TableForm, rows_under_keys}
 
 pub rows_rise : {K V : Type 0} (form : TableForm K V) → IsTotalOrder form.order → (trees : Trees) → T (is_sorted form.order (rows_under_keys form trees))

@@ -14,14 +14,13 @@ ghost use Rattle.hh_sqlparts.specs.Readings.{LeavesNoMore, OfCommitted, OfSettle
 
 use crate::tables::table_of;
 use hh_kept_rows::KeptRegister;
-use hh_keyed_rows::RowFault;
 use hh_names::{Contract, PeriodNumber};
 use hh_num::Kwh;
 use hh_rows::{ContractKey, ContractRow, SettlementPeriod};
 use hh_rules::{Position, PositionKey, Positions};
 use hh_runs::{RunKey, Summary};
 use hh_sqlrows::{
-    select_contracts, select_positions, select_references, select_runs, select_touched,
+    RowFault, select_contracts, select_positions, select_references, select_runs, select_touched,
 };
 use hh_time::SettlementDate;
 use sqlite::{Alter, Connection};

@@ -12,11 +12,11 @@ ghost use Rattle.hh_sqlrows.specs.OfficeTables.{contracts, positions};
 ghost use Rattle.hh_sqlparts.specs.Readings.{ReadsSafely, SelectsOnly, OfSettled};
 
 use crate::moved_positions::{select_positions_named, select_volumes_named};
-use hh_keyed_rows::RowFault;
 use hh_names::Contract;
 use hh_num::Kwh;
 use hh_rows::{ContractKey, ContractRow, Row};
 use hh_rules::{Position, PositionKey, Positions};
+use hh_sqlrows::RowFault;
 use hh_tables::TreeTable;
 use sqlite::{Alter, Connection};
 use std::alloc::{AllocError, Global};

@@ -15,12 +15,12 @@ ghost use Rattle.hh_sqlparts.specs.Readings.{ReadsSafely, SelectsOnly, OfSettled
 use crate::tables::table_of;
 use hh_calc::AccountRow;
 use hh_kept_rows::DayBeside;
-use hh_keyed_rows::{AccountAmounts, RowFault};
 use hh_num::Ticks;
 use hh_rules::{Position, PositionKey};
 use hh_runs::{RunKey, Summary};
 use hh_sqlrows::{
-    select_credits_of, select_positions_on, select_results_of, select_runs_on, select_touched_on,
+    AccountAmounts, RowFault, select_credits_of, select_positions_on, select_results_of,
+    select_runs_on, select_touched_on,
 };
 use hh_states::{CreditKey, ResultKey};
 use hh_tables::ListTable;

@@ -11,11 +11,10 @@ ghost use Rattle.hh_sqlparts.specs.steps.DayParts.{contracts_on, references_in, 
 use crate::named_entries::references_under;
 use crate::tables::table_of;
 use hh_kept_rows::KeptRegister;
-use hh_keyed_rows::RowFault;
 use hh_names::Reference;
 use hh_num::Kwh;
 use hh_rows::ContractKey;
-use hh_sqlrows::select_contracts_on;
+use hh_sqlrows::{RowFault, select_contracts_on};
 use hh_tables::ListTable;
 use hh_time::SettlementDate;
 use sqlite::{Alter, Connection};

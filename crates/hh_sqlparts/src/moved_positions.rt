@@ -13,11 +13,11 @@ ghost use Rattle.hh_sqlparts.specs.steps.Named.{volume_key_of, FindsNamed, IsAmo
 
 use crate::named_entries::{contracts_under, positions_under};
 use crate::named_names::{names_in, names_of};
-use hh_keyed_rows::RowFault;
 use hh_names::Account;
 use hh_num::Kwh;
 use hh_rows::{ContractKey, ContractRow, Row};
 use hh_rules::{Position, PositionKey, Positions};
+use hh_sqlrows::RowFault;
 use hh_tables::TreeTable;
 use sqlite::{Alter, Connection};
 use std::alloc::{AllocError, Global};

@@ -12,8 +12,8 @@ use crate::named_tables::{
 };
 use crate::tables::{all_parties, all_units};
 use hh_kept_rows::KeptRegister;
-use hh_keyed_rows::RowFault;
 use hh_rows::Row;
+use hh_sqlrows::RowFault;
 use sqlite::{Alter, Connection};
 use std::alloc::Global;
 

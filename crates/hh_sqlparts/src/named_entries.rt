@@ -12,14 +12,13 @@ ghost use Rattle.hh_sqlparts.specs.Readings.{ReadsSafely, SelectsOnly, OfSettled
 ghost use Rattle.hh_sqlparts.specs.steps.Named.{entry_under, prices_of, readings_of, reallocations_of};
 
 use crate::named_names::UnitDay;
-use hh_keyed_rows::RowFault;
 use hh_names::{Counterparties, Reading, Reallocation, Reference, UnitId};
 use hh_num::{Kwh, Price};
 use hh_rows::{ContractKey, ReallocationKey, SettlementPeriod, UnitPeriod};
 use hh_rules::{Position, PositionKey};
 use hh_sqlrows::{
-    select_contract, select_meters_on, select_position, select_prices_on, select_reallocations_of,
-    select_reference,
+    RowFault, select_contract, select_meters_on, select_position, select_prices_on,
+    select_reallocations_of, select_reference,
 };
 use hh_time::SettlementDate;
 use sqlite::{Alter, Connection};

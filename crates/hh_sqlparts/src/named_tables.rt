@@ -13,10 +13,10 @@ use crate::named_entries::{
     contracts_under, meters_under, prices_under, reallocations_under, references_under,
 };
 use crate::named_names::names_in;
-use hh_keyed_rows::RowFault;
 use hh_names::{Counterparties, Reading, Reallocation, Reference};
 use hh_num::{Kwh, Price};
 use hh_rows::{ContractKey, ReallocationKey, Row, SettlementPeriod, UnitPeriod};
+use hh_sqlrows::RowFault;
 use hh_tables::ListTable;
 use sqlite::{Alter, Connection};
 use std::alloc::Global;

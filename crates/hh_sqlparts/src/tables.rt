@@ -8,10 +8,9 @@ ghost use Rattle.hh_sqlrows.specs.OfficeTables.{parties, units};
 ghost use Rattle.hh_sqlrows.specs.Reads.{OfOffice};
 ghost use Rattle.hh_sqlparts.specs.Readings.{ReadsSafely, SelectsOnly};
 
-use hh_keyed_rows::RowFault;
 use hh_names::{PartyId, UnitId};
 use hh_rows::{PartyRegistration, UnitRegistration};
-use hh_sqlrows::{select_parties, select_units};
+use hh_sqlrows::{RowFault, select_parties, select_units};
 use hh_tables::ListTable;
 use sqlite::{Alter, Connection};
 use std::alloc::Global;

@@ -12,14 +12,14 @@ use Rattle.hh_rows.specs.Kinds.{kind_word}
 use Rattle.hh_rows.specs.declared.keys.ReallocationKey.{ReallocationKey}
 use Rattle.hh_rows.specs.declared.settlement_period.SettlementPeriod.{SettlementPeriod}
 use Rattle.hh_rows.proofs.KeyLaws.{exact_settlement_periods, settlement_period_total}
-use Rattle.hh_rules.specs.Positions.{position_key_cmp}
 use Rattle.hh_runs.specs.RunKinds.{run_kind_cmp, run_kind_number}
-use Rattle.hh_states.specs.Content.{credit_key_cmp, posting_key_cmp, result_key_cmp}
-use Rattle.hh_states.specs.Runs.{run_key_cmp}
-use Rattle.hh_states.specs.States.{file_key_cmp}
+use Rattle.hh_keyed_rows.specs.Content.{credit_key_cmp, posting_key_cmp, result_key_cmp}
+use Rattle.hh_keyed_rows.specs.Runs.{run_key_cmp}
+use Rattle.hh_keyed_rows.specs.States.{file_key_cmp}
 use Rattle.hh_keyed_rows.specs.Codecs.{Codec, IsCodec, both, nat_column, text_column, via}
 use Rattle.hh_keyed_rows.specs.Fields.{account_columns, date_column, file_kind_column, file_name_column, period_column, reference_column, run_kind_column, settlement_period_columns, side_column, party_column, unit_column}
 use Rattle.hh_keyed_rows.specs.Keys.{contract_key_columns, credit_key_columns, file_key_columns, one_row_column, position_key_columns, posting_key_columns, result_key_columns, run_key_columns, unit_period_columns}
+use Rattle.hh_keyed_rows.specs.Positions.{position_key_cmp}
 use Rattle.hh_keyed_rows.proofs.CodecLaws.{both_codec, via_codec}
 use Rattle.hh_keyed_rows.proofs.FieldLaws.{account_codec, date_codec, file_kind_codec, period_codec, settlement_period_codec, word_codec}
 use Rattle.hh_keyed_rows.proofs.KeyCodecs.{run_key_codec, unit_period_codec}

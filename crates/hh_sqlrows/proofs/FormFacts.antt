@@ -4,7 +4,7 @@ use Rattle.std.proofs.lemmas.Map.Lookups.{exact_bytes}
 use Rattle.hh_num.specs.Quantities.{amounts_of_cash, energies, prices as price_range, volumes}
 use Rattle.hh_names.proofs.AccountLaws.{bytes_total}
 use Rattle.hh_rows.proofs.KeyLaws.{contract_key_total, exact_contract_keys, exact_reallocation_keys, exact_settlement_periods, exact_unit_periods, reallocation_key_total, settlement_period_total, unit_period_total}
-use Rattle.hh_states.proofs.KeyLaws.{credit_key_total, exact_credit_keys, exact_file_keys, exact_posting_keys, exact_result_keys, exact_run_keys, file_key_total, posting_key_total, result_key_total, run_key_total}
+use Rattle.hh_keyed_rows.proofs.KeyLaws.{credit_key_total, exact_credit_keys, exact_file_keys, exact_posting_keys, exact_result_keys, exact_run_keys, file_key_total, posting_key_total, result_key_total, run_key_total}
 use Rattle.hh_keyed_rows.proofs.FieldLaws.{counterparties_codec, mark_codec, settlement_period_codec}
 use Rattle.hh_keyed_rows.proofs.KeyCodecs.{amounts_codec, contract_key_codec, credit_key_codec, file_codec, file_key_codec, no_columns_codec, one_row_codec, party_codec, position_codec, position_key_codec, posting_key_codec, quantity_codec, reading_codec, reallocation_codec, reallocation_key_codec, reference_codec, registered_party_codec, registered_unit_codec, result_key_codec, run_key_codec, settings_codec, summary_codec, unit_codec, unit_period_codec}
 use Rattle.hh_keyed_rows.proofs.PutLaws.{cast_int}

@@ -41,7 +41,7 @@ use Rattle.hh_keyed_rows.specs.Codecs.{Codec, IsCodec, places_from}
 use Rattle.hh_keyed_rows.specs.KeyedRows.{stored_entry, table_in}
 use Rattle.hh_keyed_rows.specs.Puts.{stored_in}
 use Rattle.hh_keyed_rows.proofs.CodecLaws.{entry_written}
-use Rattle.hh_keyed_rows.proofs.KeyLaws.{matches, matches_by, table_in-replaced}
+use Rattle.hh_keyed_rows.proofs.WriteLaws.{matches, matches_by, table_in-replaced}
 use Rattle.hh_keyed_rows.proofs.PutLaws.{went, same_value}
 use Rattle.hh_sqlrows.proofs.GroupLaws.{cast_each, numbered_each, put_each, unnumbered}
 use Rattle.hh_keyed_rows.proofs.RuleLaws.{once}

@@ -11,10 +11,10 @@ use Rattle.sqlite_keyed.proofs.ListLemmas.{ascending-filter, ascending-map}
 use Rattle.sqlite_trees.specs.Tree.{IsAscending, Trees}
 use Rattle.hh_names.specs.Accounts.{account_cmp}
 use Rattle.hh_runs.specs.declared.run_key.RunKey.{RunKey}
-use Rattle.hh_states.specs.declared.run_keys.ResultKey.{ResultKey}
-use Rattle.hh_states.specs.Content.{result_key_cmp}
-use Rattle.hh_states.specs.Runs.{run_key_cmp}
-use Rattle.hh_states.proofs.KeyLaws.{exact_run_keys, run_key_total}
+use Rattle.hh_keyed_rows.specs.run_keys.ResultKey.{ResultKey}
+use Rattle.hh_keyed_rows.specs.Content.{result_key_cmp}
+use Rattle.hh_keyed_rows.specs.Runs.{run_key_cmp}
+use Rattle.hh_keyed_rows.proofs.KeyLaws.{exact_run_keys, run_key_total}
 use Rattle.hh_keyed_rows.specs.KeyedRows.{stored_entry}
 use Rattle.hh_keyed_rows.specs.declared.amounts.AccountAmounts.{AccountAmounts}
 use Rattle.hh_keyed_rows.proofs.PlaceLaws.{is_Equal}

@@ -40,7 +40,7 @@ use Rattle.hh_keyed_rows.specs.Codecs.{places_from}
 use Rattle.hh_keyed_rows.specs.KeyedRows.{stored_entry, table_in}
 use Rattle.hh_keyed_rows.specs.Puts.{stored_in}
 use Rattle.hh_keyed_rows.proofs.CodecLaws.{entry_written}
-use Rattle.hh_keyed_rows.proofs.KeyLaws.{matches, matches_by, table_in-replaced}
+use Rattle.hh_keyed_rows.proofs.WriteLaws.{matches, matches_by, table_in-replaced}
 use Rattle.hh_keyed_rows.proofs.PlaceLaws.{equal_ints, is_Equal}
 use Rattle.hh_keyed_rows.proofs.PutLaws.{cast_int}
 use Rattle.hh_keyed_rows.proofs.ReplaceLaws.{matched}

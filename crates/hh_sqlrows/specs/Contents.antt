@@ -6,16 +6,16 @@ use Rattle.sqlite_trees.specs.Tree.{Trees}
 use Rattle.hh_names.specs.declared.account.Account.{Account}
 use Rattle.hh_rows.specs.declared.settings.Settings.{Settings}
 use Rattle.hh_rows.specs.declared.settlement_period.SettlementPeriod.{SettlementPeriod}
-use Rattle.hh_rules.specs.History.{Registered}
-use Rattle.hh_calc.specs.declared.result.AccountRow.{AccountRow}
+use Rattle.hh_reports.specs.result.AccountRow.{AccountRow}
 use Rattle.hh_runs.specs.declared.run_key.RunKey.{RunKey}
-use Rattle.hh_states.specs.Runs.{run_key_cmp}
-use Rattle.hh_states.specs.declared.run_keys.PostingKey.{PostingKey}
-use Rattle.hh_states.specs.declared.run_keys.ResultKey.{ResultKey}
-use Rattle.hh_states.specs.Content.{Content}
-use Rattle.hh_states.specs.Beside.{Beside, agrees}
+use Rattle.hh_keyed_rows.specs.Runs.{run_key_cmp}
+use Rattle.hh_keyed_rows.specs.run_keys.PostingKey.{PostingKey}
+use Rattle.hh_keyed_rows.specs.run_keys.ResultKey.{ResultKey}
+use Rattle.hh_keyed_rows.specs.Content.{Content}
+use Rattle.hh_keyed_rows.specs.Beside.{Beside, agrees}
 use Rattle.hh_keyed_rows.specs.declared.amounts.AccountAmounts.{AccountAmounts}
 use Rattle.hh_keyed_rows.specs.Values.{account_row_of}
+use Rattle.hh_keyed_rows.specs.History.{Registered}
 use Rattle.hh_sqlrows.specs.Forms.{rows_under_keys}
 use Rattle.hh_sqlrows.specs.OfficeTables.{contracts, credits, files, marks, meters, one_row_cmp, parties, period_prices, positions, postings, reallocations, references, results, runs, touched, units}
 

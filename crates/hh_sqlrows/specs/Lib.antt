@@ -9,3 +9,10 @@ pub mod Reads
 pub mod Statements
 pub mod TakerLaws
 pub mod steps
+pub use Rattle.hh_keyed_rows.specs.declared.amounts
+pub use Rattle.hh_keyed_rows.specs.declared.no_columns
+pub use Rattle.hh_keyed_rows.specs.declared.row_fault
+pub use Rattle.hh_keyed_rows.specs.Beside
+pub use Rattle.hh_keyed_rows.specs.Content
+pub use Rattle.hh_keyed_rows.specs.KeyedRows
+pub use Rattle.hh_keyed_rows.specs.Values

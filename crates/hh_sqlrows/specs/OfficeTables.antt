@@ -15,19 +15,19 @@ use Rattle.hh_rows.specs.declared.rows.UnitRegistration.{UnitRegistration}
 use Rattle.hh_rows.specs.declared.settings.Settings.{Settings}
 use Rattle.hh_rows.specs.declared.settlement_period.SettlementPeriod.{SettlementPeriod}
 use Rattle.hh_rows.specs.Keys.{contract_key_cmp, reallocation_key_cmp, settlement_period_cmp, unit_period_cmp}
-use Rattle.hh_rules.specs.Positions.{position_key_cmp}
-use Rattle.hh_rules.specs.declared.positions.Position.{Position}
-use Rattle.hh_rules.specs.declared.positions.PositionKey.{PositionKey}
-use Rattle.hh_calc.specs.declared.result.AccountRow.{AccountRow}
+use Rattle.hh_keyed_rows.specs.Positions.{position_key_cmp}
+use Rattle.hh_keyed_rows.specs.positions.Position.{Position}
+use Rattle.hh_keyed_rows.specs.positions.PositionKey.{PositionKey}
+use Rattle.hh_reports.specs.result.AccountRow.{AccountRow}
 use Rattle.hh_runs.specs.declared.run_key.RunKey.{RunKey}
 use Rattle.hh_runs.specs.declared.summary.Summary.{Summary}
-use Rattle.hh_states.specs.declared.file_key.FileKey.{FileKey}
-use Rattle.hh_states.specs.declared.run_keys.CreditKey.{CreditKey}
-use Rattle.hh_states.specs.declared.run_keys.PostingKey.{PostingKey}
-use Rattle.hh_states.specs.declared.run_keys.ResultKey.{ResultKey}
-use Rattle.hh_states.specs.Content.{credit_key_cmp, posting_key_cmp, result_key_cmp}
-use Rattle.hh_states.specs.Runs.{run_key_cmp}
-use Rattle.hh_states.specs.States.{KeptFileView, file_key_cmp}
+use Rattle.hh_keyed_rows.specs.file_key.FileKey.{FileKey}
+use Rattle.hh_keyed_rows.specs.run_keys.CreditKey.{CreditKey}
+use Rattle.hh_keyed_rows.specs.run_keys.PostingKey.{PostingKey}
+use Rattle.hh_keyed_rows.specs.run_keys.ResultKey.{ResultKey}
+use Rattle.hh_keyed_rows.specs.Content.{credit_key_cmp, posting_key_cmp, result_key_cmp}
+use Rattle.hh_keyed_rows.specs.Runs.{run_key_cmp}
+use Rattle.hh_keyed_rows.specs.States.{KeptFileView, file_key_cmp}
 use Rattle.hh_keyed_rows.specs.declared.amounts.AccountAmounts.{AccountAmounts}
 use Rattle.hh_keyed_rows.specs.declared.no_columns.NoColumns.{NoColumns}
 use Rattle.hh_keyed_rows.specs.declared.one_row.OneRow.{OneRow}

@@ -2,7 +2,7 @@
 
 ghost use Rattle.std.specs.Prelude.{◌≡◌, false, IsTrue, OnOk, IfOk, filter};
 ghost use Rattle.std.specs.Ordering.{is_eq};
-ghost use Rattle.hh_states.specs.Runs.{run_key_cmp};
+ghost use Rattle.hh_keyed_rows.specs.Runs.{run_key_cmp};
 ghost use Rattle.sqlite.specs.Held.{state};
 ghost use Rattle.hh_sqlrows.specs.Forms.{Puts, PutsAll, rows_under_keys};
 ghost use Rattle.hh_sqlrows.specs.Office.{IsOffice};
@@ -11,10 +11,9 @@ ghost use Rattle.hh_sqlrows.specs.Reads.{CommitsNothingOf, IsHonest, LeavesOffic
 ghost use Rattle.hh_sqlrows.specs.Statements.{CommitsNothing, Inside, KeepsCommit, StaysInside};
 
 use crate::statement::{GROUP, select_by, write_entries, write_entry};
-use hh_keyed_rows::RowFault;
+use hh_keyed_rows::{CreditKey, RowFault};
 use hh_num::Ticks;
 use hh_runs::RunKey;
-use hh_states::CreditKey;
 use sqlite::{Alter, Connection, Transaction};
 use std::alloc::Global;
 

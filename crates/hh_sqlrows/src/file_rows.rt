@@ -2,7 +2,7 @@
 
 ghost use Rattle.std.specs.Prelude.{◌≡◌, false, IsTrue, OnOk, IfOk};
 ghost use Rattle.std.specs.FinMap.{find};
-ghost use Rattle.hh_states.specs.States.{file_key_cmp};
+ghost use Rattle.hh_keyed_rows.specs.States.{file_key_cmp};
 ghost use Rattle.sqlite.specs.Held.{state};
 ghost use Rattle.hh_sqlrows.specs.Forms.{Puts, rows_under_keys};
 ghost use Rattle.hh_sqlrows.specs.Office.{IsOffice};
@@ -11,8 +11,7 @@ ghost use Rattle.hh_sqlrows.specs.Reads.{CommitsNothingOf, IsHonest, LeavesOffic
 ghost use Rattle.hh_sqlrows.specs.Statements.{CommitsNothing, Inside, KeepsCommit, StaysInside};
 
 use crate::statement::{select_first, write_entry};
-use hh_keyed_rows::{KeptFile, RowFault};
-use hh_states::FileKey;
+use hh_keyed_rows::{FileKey, KeptFile, RowFault};
 use sqlite::{Alter, Connection, Transaction};
 use std::alloc::Global;
 

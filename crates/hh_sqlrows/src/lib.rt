@@ -27,7 +27,7 @@ pub use contract_rows::{
 };
 pub use credit_rows::{insert_credit, insert_credits, select_credits_of};
 pub use file_rows::{replace_file, select_file};
-pub use hh_keyed_rows::{LoadChange, RunChange};
+pub use hh_keyed_rows::{AccountAmounts, LoadChange, RowFault, RunChange};
 pub use make::{make_table, make_tables};
 pub use meter_rows::{insert_meters, replace_meter, select_meters_on};
 pub use office_rows::{insert_mark, insert_settings, replace_mark, select_mark, select_settings};

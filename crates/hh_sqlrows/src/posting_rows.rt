@@ -14,9 +14,8 @@ use crate::giving::give_entries;
 use crate::statement::{select_entries, write_entry};
 use crate::taker::RowTaker;
 use hh_devices::Sink;
-use hh_keyed_rows::{OutputFault, RowFault};
+use hh_keyed_rows::{OutputFault, PostingKey, RowFault};
 use hh_num::Pence;
-use hh_states::PostingKey;
 use sqlite::{Alter, Connection, Transaction};
 use std::alloc::Global;
 

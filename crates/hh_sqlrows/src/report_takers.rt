@@ -15,12 +15,11 @@ ghost use Rattle.hh_sqlrows.specs.TakerLaws.{balances_left, day_left, nothing_le
 
 use crate::taker::RowTaker;
 use hh_devices::Sink;
-use hh_keyed_rows::{AccountAmounts, OutputFault};
+use hh_keyed_rows::{AccountAmounts, OutputFault, PostingKey, ResultKey};
 use hh_names::PartyId;
 use hh_num::Pence;
 use hh_reports::{AccountSums, BalancesWriter, DayReportWriter, ResultsWriter};
 use hh_rows::PartyRegistration;
-use hh_states::{PostingKey, ResultKey};
 
 /// Writes the results of a run.
 impl RowTaker<ResultKey, AccountAmounts> for ResultsWriter {

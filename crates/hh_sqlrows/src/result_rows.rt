@@ -16,11 +16,10 @@ ghost use Rattle.hh_sqlrows.specs.Statements.{CommitsNothing, Inside, KeepsCommi
 use crate::giving::give_by;
 use crate::statement::{GROUP, select_by, write_entries, write_entry};
 use crate::taker::RowTaker;
-use hh_calc::AccountRow;
 use hh_devices::Sink;
-use hh_keyed_rows::{AccountAmounts, OutputFault, RowFault};
+use hh_keyed_rows::{AccountAmounts, OutputFault, ResultKey, RowFault};
+use hh_reports::AccountRow;
 use hh_runs::RunKey;
-use hh_states::ResultKey;
 use sqlite::{Alter, Connection, Transaction};
 use std::alloc::{AllocError, Global};
 

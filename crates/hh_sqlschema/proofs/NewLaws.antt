@@ -8,14 +8,14 @@ use Rattle.sqlite_schema.specs.declared.schema.Table.{Table}
 use Rattle.sqlite_trees.specs.Tree.{Trees}
 use Rattle.sqlite.specs.Effect.{Database, IsDatabase}
 use Rattle.hh_rows.specs.declared.settings.Settings.{Settings}
-use Rattle.hh_keyed_rows.specs.KeyedRows.{stored_entry, table_in}
+use Rattle.hh_sqlrows.specs.KeyedRows.{stored_entry, table_in}
 use Rattle.hh_sqlrows.specs.Forms.{TableForm, Puts, rows_under_keys}
 use Rattle.hh_sqlrows.specs.Making.{AreEmpty, IsMadeUpTo}
 use Rattle.hh_sqlrows.specs.Office.{IsEmptyOffice}
 use Rattle.hh_sqlrows.specs.OfficeSchema.{nothing, office}
 use Rattle.hh_sqlrows.specs.OfficeTables.{contracts, credits, files, marks, meters, one_row_cmp, parties, period_prices, positions, postings, reallocations, references, results, runs, settings, touched, units}
-use Rattle.hh_states.specs.Beside.{agrees}
-use Rattle.hh_states.specs.Content.{Content, empty_content}
+use Rattle.hh_sqlrows.specs.Beside.{agrees}
+use Rattle.hh_sqlrows.specs.Content.{Content, empty_content}
 use Rattle.hh_sqlrows.specs.Contents.{beside_in, content_of, is_in_step_in, mark_in, result_of}
 use Rattle.hh_sqlschema.specs.Holds.{IsNewOffice}
 

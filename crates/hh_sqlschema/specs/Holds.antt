@@ -4,8 +4,8 @@ use Rattle.std.specs.FinMap.{find}
 use Rattle.sqlite_trees.specs.Tree.{Trees}
 use Rattle.sqlite.specs.Effect.{Database}
 use Rattle.hh_rows.specs.declared.settings.Settings.{Settings}
-use Rattle.hh_states.specs.Content.{Content, empty_content}
-use Rattle.hh_keyed_rows.specs.Values.{version}
+use Rattle.hh_sqlrows.specs.Content.{Content, empty_content}
+use Rattle.hh_sqlrows.specs.Values.{version}
 use Rattle.hh_sqlrows.specs.Forms.{rows_under_keys}
 use Rattle.hh_sqlrows.specs.Making.{AreEmpty}
 use Rattle.hh_sqlrows.specs.Office.{IsOffice}

@@ -5,16 +5,15 @@ ghost use Rattle.sqlite.specs.Held.{state};
 ghost use Rattle.sqlite.specs.State.{HasCleanDisk};
 ghost use Rattle.hh_sqlrows.specs.Making.{IsMadeUpTo};
 ghost use Rattle.hh_sqlrows.specs.Statements.{CommitsNothing, Inside, KeepsCommit, StaysInside};
-ghost use Rattle.hh_keyed_rows.specs.declared.row_fault.RowFault.TheVariants.{Store};
+ghost use Rattle.hh_sqlrows.specs.row_fault.RowFault.TheVariants.{Store};
 ghost use Rattle.hh_sqlrows.specs.OfficeSchema.{nothing};
 ghost use Rattle.hh_sqlschema.specs.Holds.{IsNewOffice};
 ghost use Rattle.hh_sqlschema.specs.Making.{MayMake};
 ghost use Rattle.hh_sqlschema.specs.Made.{IsMadeIn, IsUndone};
 
 use crate::schema::is_nothing;
-use hh_keyed_rows::RowFault;
 use hh_rows::Settings;
-use hh_sqlrows::{insert_mark, insert_settings, make_tables};
+use hh_sqlrows::{RowFault, insert_mark, insert_settings, make_tables};
 use sqlite::{Alter, Connection, Transaction};
 use std::alloc::Global;
 

@@ -2,16 +2,15 @@
 
 ghost use Rattle.std.specs.Prelude.{◌≡◌, ◌≢◌, false, Err, IfOk, IsTrue, OnOk};
 ghost use Rattle.sqlite.specs.Held.{state};
-ghost use Rattle.hh_keyed_rows.specs.declared.row_fault.RowFault.TheVariants.{Store};
+ghost use Rattle.hh_sqlrows.specs.row_fault.RowFault.TheVariants.{Store};
 ghost use Rattle.hh_sqlrows.specs.OfficeSchema.{office};
 ghost use Rattle.hh_sqlrows.specs.Reads.{IsHonest, StaysOpen};
 ghost use Rattle.hh_sqlschema.specs.Adopted.{CrashAddsNothing, IsAdoptedFrom};
 ghost use Rattle.hh_sqlschema.specs.Leaving.{LeavesDatabase};
 
 use crate::rising::{Rising, has_office};
-use hh_keyed_rows::RowFault;
 use hh_rows::Settings;
-use hh_sqlrows::select_settings;
+use hh_sqlrows::{RowFault, select_settings};
 use sqlite::Connection;
 use std::alloc::Global;
 

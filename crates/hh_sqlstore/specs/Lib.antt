@@ -1,5 +1,6 @@
 pub mod Stores
 pub mod steps
+pub use Rattle.hh_keyed_rows.specs.Values
 pub use Rattle.hh_sqlrows.specs.OfficeSchema
 pub use Rattle.hh_sqlschema.specs.Holds
 pub use Rattle.hh_sqlschema.specs.Leaving

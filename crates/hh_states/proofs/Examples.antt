@@ -1,19 +1,19 @@
 -- A market of two parties and a day of its files: replies, the settled day, runs and their postings, all computed.
 use Rattle.std.proofs.Common.{◌≡◌, ℕ, List, [], ◌∷◌, ◌++◌, refl, Some, None, true, false, Option}
 use Rattle.std.specs.Prelude.{ℤ, pos, neg_ℤ, codes, ◌+◌, ◌-◌, ◌*◌, ◌==◌, map, option_map, if◌then◌else◌}
-use Rattle.hh_names.specs.declared.account.Account.{Account}
-use Rattle.hh_names.specs.declared.account.Side.{Side}
-use Rattle.hh_names.specs.declared.account.Side.TheVariants.{Production, Consumption}
-use Rattle.hh_names.specs.declared.fault.Fault.{Fault}
-use Rattle.hh_names.specs.declared.fault.Refusal.{Refusal}
-use Rattle.hh_names.specs.declared.fault.Refusal.TheVariants as refusal
-use Rattle.hh_names.specs.Faults.{row_fault}
-use Rattle.hh_rows.specs.DateRanges.{Range}
-use Rattle.hh_rows.specs.declared.file_kind.FileKind.{FileKind}
-use Rattle.hh_rows.specs.declared.file_kind.FileKind.TheVariants as file
-use Rattle.hh_rows.specs.declared.rows.Row.{Row}
-use Rattle.hh_rows.specs.declared.rows.Row.TheVariants as row
-use Rattle.hh_rows.specs.declared.settlement_period.SettlementPeriod.{SettlementPeriod}
+use Rattle.hh_rules.specs.account.Account.{Account}
+use Rattle.hh_rules.specs.account.Side.{Side}
+use Rattle.hh_rules.specs.account.Side.TheVariants.{Production, Consumption}
+use Rattle.hh_rules.specs.fault.Fault.{Fault}
+use Rattle.hh_rules.specs.fault.Refusal.{Refusal}
+use Rattle.hh_rules.specs.fault.Refusal.TheVariants as refusal
+use Rattle.hh_rules.specs.Faults.{row_fault}
+use Rattle.hh_rules.specs.DateRanges.{Range}
+use Rattle.hh_rules.specs.file_kind.FileKind.{FileKind}
+use Rattle.hh_rules.specs.file_kind.FileKind.TheVariants as file
+use Rattle.hh_rules.specs.rows.Row.{Row}
+use Rattle.hh_rules.specs.rows.Row.TheVariants as row
+use Rattle.hh_rules.specs.settlement_period.SettlementPeriod.{SettlementPeriod}
 use Rattle.hh_rules.specs.FileRows.{first_fault}
 use Rattle.hh_calc.specs.declared.result.AccountRow.{AccountRow}
 use Rattle.hh_runs.specs.declared.run_kind.RunKind.{RunKind}

@@ -4,12 +4,12 @@ use Rattle.std.specs.Prelude.{unwrap_or}
 use Rattle.std.specs.Cmp.{IsTotalOrder, nat_cmp_total, on_total, then_total}
 use Rattle.std.specs.Ordering.{nat_cmp, on, ordering_then}
 use Rattle.std.proofs.lemmas.Map.Lookups.{CmpEqualImpliesEq, exact_bytes, exact_pairs, exact_unsigned}
-use Rattle.hh_names.specs.declared.account.Account.{Account}
-use Rattle.hh_names.specs.Accounts.{account_cmp, bytes_cmp}
-use Rattle.hh_names.proofs.AccountLaws.{account_total, bytes_total, exact_accounts}
-use Rattle.hh_rows.specs.declared.file_kind.FileKind.{FileKind}
-use Rattle.hh_rows.specs.declared.file_kind.FileKind.TheVariants.{Parties, Units, Meters, Prices, Contracts, Reallocations}
-use Rattle.hh_rows.specs.Kinds.{kind_value, kind_word}
+use Rattle.hh_rules.specs.account.Account.{Account}
+use Rattle.hh_rules.specs.Accounts.{account_cmp, bytes_cmp}
+use Rattle.hh_rules.proofs.AccountLaws.{account_total, bytes_total, exact_accounts}
+use Rattle.hh_rules.specs.file_kind.FileKind.{FileKind}
+use Rattle.hh_rules.specs.file_kind.FileKind.TheVariants.{Parties, Units, Meters, Prices, Contracts, Reallocations}
+use Rattle.hh_rules.specs.Kinds.{kind_value, kind_word}
 use Rattle.hh_runs.specs.declared.run_kind.RunKind.{RunKind}
 use Rattle.hh_runs.specs.RunKinds.{run_kind_cmp}
 use Rattle.hh_runs.specs.declared.run_key.RunKey.{RunKey}

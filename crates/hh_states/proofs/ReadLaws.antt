@@ -3,10 +3,10 @@ use Rattle.std.proofs.Common.{◌≡◌, List, [], ◌∷◌, refl, sym, ap, ◌
 use Rattle.std.specs.Prelude.{ℤ, pos, ◌+ℤ◌, filter_map}
 use Rattle.std.specs.List.{cons_option}
 use Rattle.std.proofs.Math.IntN.{+ℤ_idl}
-use Rattle.hh_num.specs.Totals.{total}
-use Rattle.hh_tables.proofs.TableLaws.{find-in_key_order}
-use Rattle.hh_names.specs.declared.account.Account.{Account}
-use Rattle.hh_names.specs.Accounts.{is_same_account}
+use Rattle.hh_rules.specs.Totals.{total}
+use Rattle.hh_rules.proofs.TableLaws.{find-in_key_order}
+use Rattle.hh_rules.specs.account.Account.{Account}
+use Rattle.hh_rules.specs.Accounts.{is_same_account}
 use Rattle.hh_states.specs.declared.run_keys.PostingKey.{PostingKey}
 use Rattle.hh_states.specs.Reads.{HoldsFiles, posting_to}
 use Rattle.hh_states.specs.Sums.{posted_to}

@@ -1,10 +1,10 @@
 -- The sizes of the amounts and the counts of runs in the states that the machine reaches: they fit the types that keep them.
 use Rattle.std.specs.Prelude.{ℕ, ◌*◌, ◌≤◌, unsigned_abs, List, Some, sum_by}
 use Rattle.std.specs.List.{AllByRecursion}
-use Rattle.hh_num.specs.Quantities.{Measure, either_sign}
-use Rattle.hh_num.specs.Ranges.{IsBetween}
-use Rattle.hh_time.specs.Days.{Midnights}
-use Rattle.hh_names.specs.declared.account.Account.{Account}
+use Rattle.hh_rules.specs.Quantities.{Measure, either_sign}
+use Rattle.hh_rules.specs.Ranges.{IsBetween}
+use Rattle.hh_rules.specs.Days.{Midnights}
+use Rattle.hh_rules.specs.account.Account.{Account}
 use Rattle.hh_rules.specs.Refusals.{most_parties}
 use Rattle.hh_calc.specs.declared.result.AccountRow.{AccountRow}
 use Rattle.hh_calc.specs.Limits.{greatest_cash}

@@ -7,13 +7,13 @@ use Rattle.std.specs.FinMap.{find, is_sorted}
 use Rattle.std.specs.List.{list_all}
 use Rattle.std.specs.Ordering.{eq_by_cmp, int_eq}
 use Rattle.std.specs.Str.{bytes_eq}
-use Rattle.hh_num.specs.Totals.{total}
-use Rattle.hh_tables.specs.Tables.{Table}
-use Rattle.hh_names.specs.declared.account.Account.{Account}
-use Rattle.hh_names.specs.Accounts.{is_same_account}
-use Rattle.hh_rows.specs.Keys.{settlement_period_cmp}
-use Rattle.hh_rows.specs.declared.rows.ContractRow.{ContractRow}
-use Rattle.hh_rows.specs.declared.settlement_period.SettlementPeriod.{SettlementPeriod}
+use Rattle.hh_rules.specs.Totals.{total}
+use Rattle.hh_rules.specs.Tables.{Table}
+use Rattle.hh_rules.specs.account.Account.{Account}
+use Rattle.hh_rules.specs.Accounts.{is_same_account}
+use Rattle.hh_rules.specs.Keys.{settlement_period_cmp}
+use Rattle.hh_rules.specs.rows.ContractRow.{ContractRow}
+use Rattle.hh_rules.specs.settlement_period.SettlementPeriod.{SettlementPeriod}
 use Rattle.hh_rules.specs.History.{Registered}
 use Rattle.hh_rules.specs.Positions.{position_key, position_key_cmp}
 use Rattle.hh_rules.specs.declared.positions.Position.{Position}

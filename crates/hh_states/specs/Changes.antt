@@ -1,11 +1,11 @@
 -- What a load and a run write into the tables of an office, and the tables after that.
 use Rattle.std.specs.Prelude.{◌≡◌, ℕ, ℤ, List, [], ◌∷◌, true}
 use Rattle.std.specs.FinMap.{put}
-use Rattle.hh_tables.specs.Tables.{put_all}
-use Rattle.hh_time.specs.Days.{Midnights}
-use Rattle.hh_names.specs.declared.values.Counterparties.{Counterparties}
-use Rattle.hh_names.specs.Accounts.{bytes_cmp}
-use Rattle.hh_rows.specs.declared.rows.Row.{Row}
+use Rattle.hh_rules.specs.Tables.{put_all}
+use Rattle.hh_rules.specs.Days.{Midnights}
+use Rattle.hh_rules.specs.values.Counterparties.{Counterparties}
+use Rattle.hh_rules.specs.Accounts.{bytes_cmp}
+use Rattle.hh_rules.specs.rows.Row.{Row}
 use Rattle.hh_rules.specs.Effects.{with_row}
 use Rattle.hh_rules.specs.FileRows.{fixed_references, timely_rows}
 use Rattle.hh_rules.specs.History.{Registered}

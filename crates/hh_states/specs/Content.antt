@@ -3,11 +3,11 @@ use Rattle.std.specs.Prelude.{ℤ, List, [], map, Bool, true, Option}
 use Rattle.std.specs.List.{flat_map}
 use Rattle.std.specs.Ordering.{nat_cmp, on, then_cmp}
 use Rattle.std.specs.declared.cmp.Ordering.{Ordering}
-use Rattle.hh_tables.specs.Tables.{Table, in_key_order}
-use Rattle.hh_time.specs.Days.{Midnights}
-use Rattle.hh_names.specs.Accounts.{account_cmp, bytes_cmp}
-use Rattle.hh_rows.specs.declared.settings.Settings.{Settings}
-use Rattle.hh_rows.specs.declared.settlement_period.SettlementPeriod.{SettlementPeriod}
+use Rattle.hh_rules.specs.Tables.{Table, in_key_order}
+use Rattle.hh_rules.specs.Days.{Midnights}
+use Rattle.hh_rules.specs.Accounts.{account_cmp, bytes_cmp}
+use Rattle.hh_rules.specs.settings.Settings.{Settings}
+use Rattle.hh_rules.specs.settlement_period.SettlementPeriod.{SettlementPeriod}
 use Rattle.hh_rules.specs.History.{Registered, nothing_registered, registered_in}
 use Rattle.hh_rules.specs.Lateness.{Timetable}
 use Rattle.hh_calc.specs.declared.result.AccountRow.{AccountRow}

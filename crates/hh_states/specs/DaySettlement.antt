@@ -1,10 +1,10 @@
 -- A Settlement Day: its periods settled by what is registered and in force, what is missing for that, and the day nets.
 use Rattle.std.specs.Prelude.{ℕ, zero, suc, List, [], ◌∷◌, ◌++◌, map, find, is_none, not, ℤ, Option}
 use Rattle.std.specs.List.{flat_map}
-use Rattle.hh_num.specs.Totals.{total}
-use Rattle.hh_names.specs.declared.account.Account.{Account}
-use Rattle.hh_rows.specs.declared.keys.UnitPeriod.{UnitPeriod}
-use Rattle.hh_rows.specs.declared.settlement_period.SettlementPeriod.{SettlementPeriod}
+use Rattle.hh_rules.specs.Totals.{total}
+use Rattle.hh_rules.specs.account.Account.{Account}
+use Rattle.hh_rules.specs.keys.UnitPeriod.{UnitPeriod}
+use Rattle.hh_rules.specs.settlement_period.SettlementPeriod.{SettlementPeriod}
 use Rattle.hh_rules.specs.History.{Registered}
 use Rattle.hh_calc.specs.Limits.{is_within_limits}
 use Rattle.hh_calc.specs.Settled.{moved_by_row}

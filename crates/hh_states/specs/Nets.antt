@@ -1,8 +1,8 @@
 -- A Settlement Period has the same settlement by the contract volumes in force as by the net volumes of its accounts.
 use Rattle.std.specs.Prelude.{◌≡◌, pos, List, map, All}
-use Rattle.hh_num.specs.Totals.{total}
-use Rattle.hh_names.specs.declared.account.Account.{Account}
-use Rattle.hh_names.specs.declared.values.Contract.{Contract}
+use Rattle.hh_rules.specs.Totals.{total}
+use Rattle.hh_rules.specs.account.Account.{Account}
+use Rattle.hh_rules.specs.values.Contract.{Contract}
 use Rattle.hh_calc.specs.Formulas.{net_kwh, netted}
 use Rattle.hh_calc.specs.Limits.{is_within_limits}
 use Rattle.hh_calc.specs.Ready.{AreAccountsInOrder, AreInOrder, IsContractListed, IsNetVolume, IsReady}

@@ -4,18 +4,18 @@ use Rattle.std.specs.FinMap.{find}
 use Rattle.std.specs.List.{flat_map}
 use Rattle.std.specs.Ordering.{eq_by_cmp, on, then_cmp}
 use Rattle.std.specs.declared.cmp.Ordering.{Ordering}
-use Rattle.hh_tables.specs.Tables.{Table, in_key_order}
-use Rattle.hh_names.specs.declared.account.Account.{Account}
-use Rattle.hh_names.specs.declared.values.Reading.{Reading}
-use Rattle.hh_names.specs.Accounts.{account_cmp, bytes_cmp}
-use Rattle.hh_names.specs.PartyAccounts.{both_accounts}
-use Rattle.hh_rows.specs.declared.keys.ContractKey.{ContractKey}
-use Rattle.hh_rows.specs.declared.keys.UnitPeriod.{UnitPeriod}
-use Rattle.hh_rows.specs.declared.rows.ContractRow.{ContractRow}
-use Rattle.hh_rows.specs.declared.rows.UnitRegistration.{UnitRegistration}
-use Rattle.hh_rows.specs.declared.settlement_period.SettlementPeriod.{SettlementPeriod}
-use Rattle.hh_rows.specs.DateRanges.{holds}
-use Rattle.hh_rows.specs.Keys.{settlement_period_cmp, unit_period_cmp}
+use Rattle.hh_rules.specs.Tables.{Table, in_key_order}
+use Rattle.hh_rules.specs.account.Account.{Account}
+use Rattle.hh_rules.specs.values.Reading.{Reading}
+use Rattle.hh_rules.specs.Accounts.{account_cmp, bytes_cmp}
+use Rattle.hh_rules.specs.PartyAccounts.{both_accounts}
+use Rattle.hh_rules.specs.keys.ContractKey.{ContractKey}
+use Rattle.hh_rules.specs.keys.UnitPeriod.{UnitPeriod}
+use Rattle.hh_rules.specs.rows.ContractRow.{ContractRow}
+use Rattle.hh_rules.specs.rows.UnitRegistration.{UnitRegistration}
+use Rattle.hh_rules.specs.settlement_period.SettlementPeriod.{SettlementPeriod}
+use Rattle.hh_rules.specs.DateRanges.{holds}
+use Rattle.hh_rules.specs.Keys.{settlement_period_cmp, unit_period_cmp}
 use Rattle.hh_rules.specs.History.{Registered}
 use Rattle.hh_rules.specs.Leads.{lead_on}
 use Rattle.hh_rules.specs.RegisterView.{reallocations_at}

@@ -2,11 +2,11 @@
 -- the operator's key.
 use Rattle.std.specs.Prelude.{◌≢◌, ◌+◌, ◌≤◌, length, IsTrue}
 use Rattle.std.specs.List.{AllByRecursion}
-use Rattle.hh_num.specs.Quantities.{volumes}
-use Rattle.hh_time.specs.Days.{Midnights}
-use Rattle.hh_names.specs.Words.{is_file_name, is_reference}
-use Rattle.hh_rows.specs.RowKinds.{IsMeterRow, IsPartyRow, IsPriceRow, IsReallocationRow, IsUnitRow, most_bytes, most_rows}
-use Rattle.hh_rows.specs.Values.{AreCounterparties, AreSettings, IsContractKey, IsQuantity}
+use Rattle.hh_rules.specs.Quantities.{volumes}
+use Rattle.hh_rules.specs.Days.{Midnights}
+use Rattle.hh_rules.specs.Words.{is_file_name, is_reference}
+use Rattle.hh_rules.specs.RowKinds.{IsMeterRow, IsPartyRow, IsPriceRow, IsReallocationRow, IsUnitRow, most_bytes, most_rows}
+use Rattle.hh_rules.specs.Values.{AreCounterparties, AreSettings, IsContractKey, IsQuantity}
 use Rattle.hh_rules.specs.History.{Registered}
 use Rattle.hh_states.specs.Content.{Content, tables_of}
 use Rattle.hh_states.specs.declared.file_key.FileKey.{FileKey}

@@ -1,8 +1,8 @@
 -- What each Settlement Period is settled from fits together, and no run lacked anything.
 use Rattle.std.specs.Prelude.{◌≡◌, All, List, None}
 use Rattle.std.specs.List.{AllByRecursion}
-use Rattle.hh_time.specs.Days.{Midnights}
-use Rattle.hh_rows.specs.declared.settlement_period.SettlementPeriod.{SettlementPeriod}
+use Rattle.hh_rules.specs.Days.{Midnights}
+use Rattle.hh_rules.specs.settlement_period.SettlementPeriod.{SettlementPeriod}
 use Rattle.hh_rules.specs.History.{Registered}
 use Rattle.hh_calc.specs.Ready.{AreUnitsDistinct, IsReady}
 use Rattle.hh_calc.specs.Terms.{PeriodDataView}

@@ -4,14 +4,14 @@ use Rattle.std.specs.FinMap.{find}
 use Rattle.std.specs.List.{flat_map, list_any}
 use Rattle.std.specs.Ordering.{eq_by_cmp}
 use Rattle.std.specs.Str.{bytes_eq}
-use Rattle.hh_time.specs.Days.{Midnights}
-use Rattle.hh_names.specs.declared.account.Account.{Account}
-use Rattle.hh_names.specs.declared.values.Counterparties.{Counterparties}
-use Rattle.hh_names.specs.Accounts.{bytes_cmp, is_same_account}
-use Rattle.hh_rows.specs.declared.file_kind.FileKind.{FileKind}
-use Rattle.hh_rows.specs.declared.rows.ContractRow.{ContractRow}
-use Rattle.hh_rows.specs.declared.rows.PartyRegistration.{PartyRegistration}
-use Rattle.hh_rows.specs.declared.rows.UnitRegistration.{UnitRegistration}
+use Rattle.hh_rules.specs.Days.{Midnights}
+use Rattle.hh_rules.specs.account.Account.{Account}
+use Rattle.hh_rules.specs.values.Counterparties.{Counterparties}
+use Rattle.hh_rules.specs.Accounts.{bytes_cmp, is_same_account}
+use Rattle.hh_rules.specs.file_kind.FileKind.{FileKind}
+use Rattle.hh_rules.specs.rows.ContractRow.{ContractRow}
+use Rattle.hh_rules.specs.rows.PartyRegistration.{PartyRegistration}
+use Rattle.hh_rules.specs.rows.UnitRegistration.{UnitRegistration}
 use Rattle.hh_rules.specs.History.{Registered}
 use Rattle.hh_rules.specs.RegisterView.{RegisterView}
 use Rattle.hh_rules.specs.Refusals.{whole_standing}

@@ -3,10 +3,10 @@
 use Rattle.std.specs.Prelude.{ℕ, ◌==◌, List, [], ◌∷◌, ◌++◌, filter, take, length, Option, Some, None}
 use Rattle.std.specs.Ordering.{nat_cmp, on, then_cmp}
 use Rattle.std.specs.declared.cmp.Ordering.{Ordering}
-use Rattle.hh_num.specs.Totals.{total}
-use Rattle.hh_time.specs.Days.{Midnights, period_count}
-use Rattle.hh_names.specs.declared.account.Account.{Account}
-use Rattle.hh_rows.specs.declared.settlement_period.SettlementPeriod.{SettlementPeriod}
+use Rattle.hh_rules.specs.Totals.{total}
+use Rattle.hh_rules.specs.Days.{Midnights, period_count}
+use Rattle.hh_rules.specs.account.Account.{Account}
+use Rattle.hh_rules.specs.settlement_period.SettlementPeriod.{SettlementPeriod}
 use Rattle.hh_rules.specs.History.{History, Registered, registered_in}
 use Rattle.hh_rules.specs.Lateness.{Timetable}
 use Rattle.hh_calc.specs.Terms.{Settled}

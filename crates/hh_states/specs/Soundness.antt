@@ -2,18 +2,18 @@
 use Rattle.std.specs.Prelude.{◌≡◌, ◌≢◌, ℕ, ◌≤◌, ◌≤ℤ◌, List, length, Some, IsSome, IsTrue}
 use Rattle.std.specs.FinMap.{find}
 use Rattle.std.specs.List.{AllByRecursion}
-use Rattle.hh_num.specs.Quantities.{hundred_percent}
-use Rattle.hh_tables.specs.Tables.{IsTable}
-use Rattle.hh_time.specs.Days.{Midnights}
-use Rattle.hh_names.specs.declared.values.Counterparties.{Counterparties}
-use Rattle.hh_names.specs.Accounts.{bytes_cmp}
-use Rattle.hh_rows.specs.DateRanges.{holds, is_inside}
-use Rattle.hh_rows.specs.Keys.{contract_key_cmp, reallocation_key_cmp, settlement_period_cmp, unit_period_cmp}
-use Rattle.hh_rows.specs.declared.keys.ContractKey.{ContractKey}
-use Rattle.hh_rows.specs.declared.keys.ReallocationKey.{ReallocationKey}
-use Rattle.hh_rows.specs.declared.keys.UnitPeriod.{UnitPeriod}
-use Rattle.hh_rows.specs.declared.rows.PartyRegistration.{PartyRegistration}
-use Rattle.hh_rows.specs.declared.rows.UnitRegistration.{UnitRegistration}
+use Rattle.hh_rules.specs.Quantities.{hundred_percent}
+use Rattle.hh_rules.specs.Tables.{IsTable}
+use Rattle.hh_rules.specs.Days.{Midnights}
+use Rattle.hh_rules.specs.values.Counterparties.{Counterparties}
+use Rattle.hh_rules.specs.Accounts.{bytes_cmp}
+use Rattle.hh_rules.specs.DateRanges.{holds, is_inside}
+use Rattle.hh_rules.specs.Keys.{contract_key_cmp, reallocation_key_cmp, settlement_period_cmp, unit_period_cmp}
+use Rattle.hh_rules.specs.keys.ContractKey.{ContractKey}
+use Rattle.hh_rules.specs.keys.ReallocationKey.{ReallocationKey}
+use Rattle.hh_rules.specs.keys.UnitPeriod.{UnitPeriod}
+use Rattle.hh_rules.specs.rows.PartyRegistration.{PartyRegistration}
+use Rattle.hh_rules.specs.rows.UnitRegistration.{UnitRegistration}
 use Rattle.hh_rules.specs.History.{Registered}
 use Rattle.hh_rules.specs.Leads.{lead_on}
 use Rattle.hh_rules.specs.Percents.{percent_at}

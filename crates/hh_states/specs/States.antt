@@ -2,10 +2,10 @@
 use Rattle.std.specs.Prelude.{ℕ, List, []}
 use Rattle.std.specs.Ordering.{on, then_cmp}
 use Rattle.std.specs.declared.cmp.Ordering.{Ordering}
-use Rattle.hh_time.specs.Days.{Midnights}
-use Rattle.hh_names.specs.Accounts.{bytes_cmp}
-use Rattle.hh_rows.specs.declared.settings.Settings.{Settings}
-use Rattle.hh_rows.specs.Kinds.{kind_word}
+use Rattle.hh_rules.specs.Days.{Midnights}
+use Rattle.hh_rules.specs.Accounts.{bytes_cmp}
+use Rattle.hh_rules.specs.settings.Settings.{Settings}
+use Rattle.hh_rules.specs.Kinds.{kind_word}
 use Rattle.hh_rules.specs.History.{History}
 use Rattle.hh_rules.specs.Lateness.{Timetable}
 use Rattle.hh_states.specs.declared.file_key.FileKey.{FileKey}

@@ -2,18 +2,18 @@
 use Rattle.std.specs.Prelude.{◌≡◌, ℕ, ℤ, List, [], ◌∷◌, ◌++◌, map, length, if◌then◌else◌, Option, Some, None, option_map, IsTrue}
 use Rattle.std.specs.FinMap.{find}
 use Rattle.std.specs.Option.{option_or}
-use Rattle.hh_time.specs.Days.{Midnights, is_over, period_count}
-use Rattle.hh_names.specs.declared.fault.Fault.{Fault}
-use Rattle.hh_names.specs.declared.fault.Refusal.{Refusal}
-use Rattle.hh_names.specs.declared.fault.Refusal.TheVariants.{DayNotOver, MissingMeter, MissingPrice, TooLarge}
-use Rattle.hh_names.specs.Faults.{first_met, plain_fault}
-use Rattle.hh_names.specs.Words.{is_file_name}
-use Rattle.hh_rows.specs.RowKinds.{IsFileOf}
-use Rattle.hh_rows.specs.Values.{AreSettings}
-use Rattle.hh_rows.specs.declared.keys.UnitPeriod.{UnitPeriod}
-use Rattle.hh_rows.specs.declared.rows.Row.{Row}
-use Rattle.hh_rows.specs.declared.settings.Settings.{Settings}
-use Rattle.hh_rows.specs.declared.settlement_period.SettlementPeriod.{SettlementPeriod}
+use Rattle.hh_rules.specs.Days.{Midnights, is_over, period_count}
+use Rattle.hh_rules.specs.fault.Fault.{Fault}
+use Rattle.hh_rules.specs.fault.Refusal.{Refusal}
+use Rattle.hh_rules.specs.fault.Refusal.TheVariants.{DayNotOver, MissingMeter, MissingPrice, TooLarge}
+use Rattle.hh_rules.specs.Faults.{first_met, plain_fault}
+use Rattle.hh_rules.specs.Words.{is_file_name}
+use Rattle.hh_rules.specs.RowKinds.{IsFileOf}
+use Rattle.hh_rules.specs.Values.{AreSettings}
+use Rattle.hh_rules.specs.keys.UnitPeriod.{UnitPeriod}
+use Rattle.hh_rules.specs.rows.Row.{Row}
+use Rattle.hh_rules.specs.settings.Settings.{Settings}
+use Rattle.hh_rules.specs.settlement_period.SettlementPeriod.{SettlementPeriod}
 use Rattle.hh_rules.specs.FileRows.{coming_at, first_fault, late_count, timely_rows}
 use Rattle.hh_rules.specs.History.{History, Registered, registered_in}
 use Rattle.hh_rules.specs.Lateness.{Timetable}

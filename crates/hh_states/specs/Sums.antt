@@ -3,12 +3,12 @@ use Rattle.std.specs.Prelude.{◌≡◌, ◌≢◌, ℕ, ◌==◌, ◌&&◌, ℤ
 use Rattle.std.specs.List.{AllByRecursion}
 use Rattle.std.specs.Ordering.{eq_by_cmp}
 use Rattle.std.specs.Str.{bytes_eq}
-use Rattle.hh_num.specs.Totals.{total}
-use Rattle.hh_tables.specs.Tables.{Table}
-use Rattle.hh_time.specs.Days.{Midnights}
-use Rattle.hh_names.specs.declared.account.Account.{Account}
-use Rattle.hh_names.specs.declared.values.Reading.{Reading}
-use Rattle.hh_rows.specs.declared.settlement_period.SettlementPeriod.{SettlementPeriod}
+use Rattle.hh_rules.specs.Totals.{total}
+use Rattle.hh_rules.specs.Tables.{Table}
+use Rattle.hh_rules.specs.Days.{Midnights}
+use Rattle.hh_rules.specs.account.Account.{Account}
+use Rattle.hh_rules.specs.values.Reading.{Reading}
+use Rattle.hh_rules.specs.settlement_period.SettlementPeriod.{SettlementPeriod}
 use Rattle.hh_rules.specs.History.{History, Registered}
 use Rattle.hh_rules.specs.Lateness.{Timetable}
 use Rattle.hh_calc.specs.declared.result.AccountRow.{AccountRow}

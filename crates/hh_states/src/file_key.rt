@@ -7,8 +7,7 @@ ghost use Rattle.std.specs.Ordering.{as_partial_cmp, eq_by_cmp};
 ghost use Rattle.std.proofs.Common.{rules};
 ghost use Rattle.hh_states.specs.States.{file_key_cmp};
 
-use hh_names::FileName;
-use hh_rows::FileKind;
+use hh_rules::{FileKind, FileName};
 use std::cmp::Ordering;
 
 /// The kind and the name under which a file is kept. Keys are ordered by the bytes of the word that names

@@ -6,10 +6,10 @@ mod run_keys;
 
 pub use file_key::FileKey;
 pub use hh_calc::{AccountRow, PeriodData, PeriodResult};
-pub use hh_rows::{
-    ContractRow, FileBody, FileKind, PartyRegistration, Row, Settings, SettlementPeriod,
-    UnitPeriod, UnitRegistration,
+pub use hh_rules::{
+    Account, ContractRow, Counterparties, Fault, FileBody, FileKind, FileName, PartyId,
+    PartyRegistration, PeriodNumber, Position, PositionKey, Reference, Refusal, Register, Row,
+    Settings, SettlementPeriod, UnitId, UnitPeriod, UnitRegistration,
 };
-pub use hh_rules::{Position, PositionKey, Register};
-pub use hh_runs::{RunKey, RunKind, Summary};
+pub use hh_runs::{Pence, RunKey, RunKind, Summary, Ticks};
 pub use run_keys::{CreditKey, PostingKey, ResultKey};

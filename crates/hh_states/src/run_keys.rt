@@ -1,6 +1,6 @@
 //! The keys of what is kept of runs.
 
-use hh_names::{Account, PeriodNumber, UnitId};
+use hh_rules::{Account, PeriodNumber, UnitId};
 use hh_runs::RunKey;
 
 /// The key of a result: an account in a Settlement Period of a run. Ordered by run, then by period, then

@@ -2,10 +2,9 @@
 use Rattle.std.specs.Prelude.{ℕ, ℤ, List, map, Option, option_map, Result, Ok, Err}
 use Rattle.std.specs.FinMap.{find}
 use Rattle.std.specs.Io.KnownBytes.{Appends}
-use Rattle.hh_num.specs.Totals.{total}
 use Rattle.hh_devices.specs.DeviceChanges.{DeviceChange, HasFailed, IsWell}
 use Rattle.hh_devices.specs.Devices.{AppendsFront}
-use Rattle.hh_names.specs.declared.account.Account.{Account}
+use Rattle.hh_states.specs.account.Account.{Account}
 use Rattle.hh_states.specs.summary.Summary.{Summary}
 use Rattle.hh_states.specs.run_key.RunKey.{RunKey}
 use Rattle.hh_reports.specs.declared.run.ReportedRun.{ReportedRun}
@@ -14,6 +13,7 @@ use Rattle.hh_reports.specs.Exports.{balances_text, results_text}
 use Rattle.hh_states.specs.Content.{Content}
 use Rattle.hh_states.specs.Reads.{postings_in, results_in}
 use Rattle.hh_states.specs.Runs.{run_key_cmp}
+use Rattle.hh_states.specs.Totals.{total}
 use Rattle.hh_store.specs.declared.output_fault.OutputFault.{OutputFault}
 use Rattle.hh_store.specs.declared.output_fault.OutputFault.TheVariants.{Memory, Store, Write}
 

@@ -1,9 +1,9 @@
 -- The refusals for the faults of a store, the faults of reports as a store tells them, and how often a store has refused.
 use Rattle.std.specs.Prelude.{◌≡◌, ◌≤◌, ℕ, Result, Ok, Err}
 use Rattle.hh_devices.specs.Devices.{Failed}
-use Rattle.hh_names.specs.declared.fault.Fault.{Fault}
-use Rattle.hh_names.specs.declared.fault.Refusal.TheVariants as refusal
-use Rattle.hh_names.specs.Faults.{memory_fault, plain_fault}
+use Rattle.hh_states.specs.fault.Fault.{Fault}
+use Rattle.hh_states.specs.fault.Refusal.TheVariants as refusal
+use Rattle.hh_states.specs.Faults.{memory_fault, plain_fault}
 use Rattle.hh_reports.specs.declared.fault.ReportFault.{ReportFault}
 use Rattle.hh_reports.specs.declared.fault.ReportFault.TheVariants as report
 use Rattle.hh_store.specs.declared.output_fault.OutputFault.{OutputFault}

@@ -12,6 +12,7 @@ mod store_fault;
 mod tables;
 
 pub use day_data::{DayData, PeriodState};
+pub use hh_reports::{write_balances, write_day_report, write_results};
 pub use hh_states::{AccountRow, CreditKey, FileKey, Position, PositionKey, PostingKey, ResultKey};
 pub use kept_file::KeptFile;
 pub use load_change::LoadChange;

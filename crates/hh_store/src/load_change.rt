@@ -3,8 +3,7 @@
 ghost use Rattle.std.specs.Prelude.{◌≡◌};
 
 use crate::kept_file::KeptFile;
-use hh_names::{Counterparties, FileName, Reference};
-use hh_states::{FileKey, FileKind, Row};
+use hh_states::{Counterparties, FileKey, FileKind, FileName, Reference, Row};
 use std::marker::Model;
 
 /// What is written into the tables for an accepted file: the file with the counts of its reply, its rows

@@ -3,8 +3,7 @@
 ghost use Rattle.std.specs.Prelude.{◌≡◌};
 ghost use Rattle.hh_store.specs.OwnRows.{AreOwnRows};
 
-use hh_num::{Pence, Ticks};
-use hh_states::{AccountRow, CreditKey, PostingKey, ResultKey, RunKey, Summary};
+use hh_states::{AccountRow, CreditKey, Pence, PostingKey, ResultKey, RunKey, Summary, Ticks};
 use std::marker::Model;
 
 /// What is written into the tables for a new run: its summary, the rows of its accounts, its credits and

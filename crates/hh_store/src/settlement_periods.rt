@@ -3,8 +3,7 @@
 ghost use Rattle.std.specs.Prelude.{◌≡◌, IfOk};
 ghost use Rattle.hh_states.specs.DaySettlement.{periods_on};
 
-use hh_names::PeriodNumber;
-use hh_states::SettlementPeriod;
+use hh_states::{PeriodNumber, SettlementPeriod};
 use hh_time::Day;
 use std::alloc::{AllocError, Global};
 

@@ -1,6 +1,6 @@
 //! Why a store gives no answer.
 
-use hh_names::{Fault, Refusal};
+use hh_states::{Fault, Refusal};
 use std::alloc::{AllocError, AllocFailed};
 
 /// Why a call of the tables failed.

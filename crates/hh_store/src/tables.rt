@@ -21,11 +21,10 @@ use crate::output_fault::OutputFault;
 use crate::run_change::RunChange;
 use crate::store_fault::StoreFault;
 use hh_devices::Sink;
-use hh_names::{Account, Counterparties, FileName, PartyId, PeriodNumber, Reference, UnitId};
-use hh_num::Pence;
 use hh_states::{
-    AccountRow, ContractRow, FileKind, PartyRegistration, Register, Row, RunKey, RunKind, Settings,
-    Summary, UnitRegistration,
+    Account, AccountRow, ContractRow, Counterparties, FileKind, FileName, PartyId,
+    PartyRegistration, Pence, PeriodNumber, Reference, Register, Row, RunKey, RunKind, Settings,
+    Summary, UnitId, UnitRegistration,
 };
 use hh_time::{Day, SettlementDate};
 

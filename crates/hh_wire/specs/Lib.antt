@@ -3,3 +3,7 @@ pub mod Message
 pub mod Routes
 pub mod Stops
 pub mod steps
+pub use Rattle.hh_http_replies.specs.declared.refusal
+pub use Rattle.hh_http_replies.specs.declared.reply
+pub use Rattle.hh_http_replies.specs.ReplyText
+pub use Rattle.hh_http_replies.specs.Writes

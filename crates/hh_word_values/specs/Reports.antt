@@ -1,9 +1,9 @@
 -- The runs that words name, and the reports that they ask for.
 use Rattle.std.specs.Prelude.{ℕ, List, Option, Some, None, codes, bytes_eq, if◌then◌else◌}
 use Rattle.hh_time.specs.DateText.{date_value}
-use Rattle.hh_runs.specs.RunKinds.{run_kind_value}
-use Rattle.hh_runs.specs.declared.run_key.RunKey.{RunKey}
-use Rattle.hh_runs.specs.declared.run_kind.RunKind.{RunKind}
+use Rattle.hh_requests.specs.RunKinds.{run_kind_value}
+use Rattle.hh_requests.specs.run_key.RunKey.{RunKey}
+use Rattle.hh_requests.specs.run_kind.RunKind.{RunKind}
 use Rattle.hh_requests.specs.declared.report.Report.{Report}
 use Rattle.hh_requests.specs.declared.report.Report.TheVariants.{Balances, Day, Results}
 

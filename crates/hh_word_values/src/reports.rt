@@ -3,8 +3,7 @@
 ghost use Rattle.std.specs.Prelude.{◌≡◌};
 ghost use Rattle.hh_word_values.specs.Reports.{form_value, run_form_value, run_key_value};
 
-use hh_requests::Report;
-use hh_runs::{RunKey, RunKind};
+use hh_requests::{Report, RunKey, RunKind};
 use hh_time::SettlementDate;
 
 /// The run that a date and a kind name, if each of them can be read (profile).

@@ -1,6 +1,6 @@
 -- How the connections of a command are served.
 use Rattle.std.specs.Prelude.{◌≡◌, List, [], length}
-use Rattle.hh_office.specs.Views.{OfficeView}
+use Rattle.hh_http_serve.specs.Views.{OfficeView}
 use Rattle.hh_sockets.specs.Arrivals.{Arrival}
 use Rattle.hh_host.specs.Clocks.{ClockReading}
 use Rattle.hh_desk.specs.Serving.{ServesAll}

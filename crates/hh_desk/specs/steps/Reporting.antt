@@ -5,9 +5,9 @@ use Rattle.hh_devices.specs.DeviceChanges.{DeviceChange}
 use Rattle.hh_devices.specs.Devices.{AppendsFront}
 use Rattle.hh_names.specs.declared.fault.Refusal.{Refusal}
 use Rattle.hh_states.specs.States.{State}
-use Rattle.hh_office.specs.Promises.{Represents}
-use Rattle.hh_office.specs.Reports.{report_for}
-use Rattle.hh_office.specs.Views.{OfficeView, midnight_of}
+use Rattle.hh_http_serve.specs.Promises.{Represents}
+use Rattle.hh_http_serve.specs.Reports.{report_for}
+use Rattle.hh_http_serve.specs.Views.{OfficeView, midnight_of}
 use Rattle.hh_script.specs.Reports.{ReportStep}
 use Rattle.hh_desk.specs.declared.errand.ErrandStop.{ErrandStop}
 use Rattle.hh_desk.specs.declared.errand.ErrandStop.TheVariants as stop

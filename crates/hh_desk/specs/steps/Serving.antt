@@ -1,6 +1,6 @@
 -- What comes of one more connection, as the contracts of private functions say it.
 use Rattle.std.specs.Prelude.{List, [], ◌∷◌, ◌++◌, Some}
-use Rattle.hh_office.specs.Views.{OfficeView}
+use Rattle.hh_http_serve.specs.Views.{OfficeView}
 use Rattle.hh_sockets.specs.Arrivals.{Arrival, Exchange}
 use Rattle.hh_host.specs.Clocks.{ClockReading}
 use Rattle.hh_desk.specs.Serving.{ServesAll}

@@ -5,8 +5,8 @@ use Rattle.sqlite.specs.Held.{Held, state}
 use Rattle.sqlite.specs.State.{HasCleanDisk}
 use Rattle.hh_states.specs.Content.{Content}
 use Rattle.hh_host.specs.Views.{HostView}
-use Rattle.hh_desk.specs.Errands.{ErrandStep, Serve}
-use Rattle.hh_desk.specs.declared.errand.ErrandStop.{ErrandStop}
+use Rattle.hh_session.specs.Errands.{ErrandStep, Serve}
+use Rattle.hh_session.specs.errand.ErrandStop.{ErrandStop}
 use Rattle.hh_sqlstore.specs.Holds.{TreesHold}
 use Rattle.hh_kept_office.specs.Crashes.{HoldsWhatCounts}
 

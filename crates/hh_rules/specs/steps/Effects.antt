@@ -4,8 +4,8 @@ use Rattle.std.specs.FinMap.{find}
 use Rattle.hh_names.specs.Accounts.{bytes_cmp}
 use Rattle.hh_rows.specs.declared.rows.Row.{Row}
 use Rattle.hh_rows.specs.declared.rows.Row.TheVariants as row
+use Rattle.hh_rows.specs.Quantities.{hundred_percent}
 use Rattle.hh_rules.specs.Percents.{percent_of_others}
-use Rattle.hh_num.specs.Quantities.{hundred_percent}
 use Rattle.hh_rules.specs.Refusals.{Standing, most_parties, most_units}
 
 -- the row would take no number above its limit

@@ -2,8 +2,8 @@
 use Rattle.std.specs.Prelude.{◌≡◌, ℤ, Bool, Option, Some, None}
 use Rattle.jiff.specs.declared.tz.timezone.TimeZone.{TimeZone}
 use Rattle.jiff.specs.Words.{plain_zone}
-use Rattle.hh_time.specs.declared.day.Day.{Day}
-use Rattle.hh_time.specs.Zone.{count_in, midnight_in}
+use Rattle.hh_rows.specs.day.Day.{Day}
+use Rattle.hh_rows.specs.Zone.{count_in, midnight_in}
 use Rattle.hh_names.specs.declared.fault.Refusal.{Refusal}
 use Rattle.hh_rows.specs.declared.rows.Row.{Row}
 use Rattle.hh_rules.specs.RegisterView.{RegisterView, in_time_at, refusal_at}

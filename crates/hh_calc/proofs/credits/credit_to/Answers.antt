@@ -1,6 +1,6 @@
 use Rattle.std.proofs.Common.{arith, ◌∙◌, ◌^◌, ◌*◌}
 use Rattle.std.specs.Prelude.{pos, ◌+ℤ◌, ◌-ℤ◌, ◌*ℤ◌}
-use Rattle.hh_num.specs.Rounding.{near}
+use Rattle.hh_share.specs.Rounding.{near}
 use Rattle.hh_calc.proofs.CreditFacts.{held_amount, held_credit, held_fits, held_limit, held_part, held_percentage, held_wide, held_word, multiplier_most, percent_most}
 use Rattle.hh_calc.proofs.WordFacts.{volume_size}
 use Rattle.hh_calc.proofs.credits.credit_to.Goals as goal

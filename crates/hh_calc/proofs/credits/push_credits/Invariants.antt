@@ -1,6 +1,6 @@
 use Rattle.std.proofs.Common.{◌≡◌, ◌+◌, ◌*◌, ◌^◌, ◌≤◌, ◌++◌, map, take}
 use Rattle.std.specs.Prelude.{◌-ℤ◌, unsigned_abs, All}
-use Rattle.hh_num.specs.Totals.{total}
+use Rattle.hh_share.specs.Totals.{total}
 use Rattle.hh_calc.specs.Formulas.{loss_adjusted, subsidiary_credit}
 use Rattle.hh_calc.proofs.CreditFacts.{credit_of}
 use Rattle.hh_calc.proofs.credits.push_credits.Given as goal

@@ -1,6 +1,6 @@
 use Rattle.std.proofs.Common.{◌≡◌, ◌*◌, ◌^◌, ◌≤◌, take}
 use Rattle.std.specs.Prelude.{All, unsigned_abs}
-use Rattle.hh_num.specs.Totals.{total}
+use Rattle.hh_share.specs.Totals.{total}
 use Rattle.hh_calc.specs.Ready.{IsNetVolume}
 use Rattle.hh_calc.proofs.ready.sum_of_nets.Given as goal
 

@@ -1,5 +1,5 @@
 use Rattle.std.proofs.Common.{◌≡◌, neg_ℤ, take}
-use Rattle.hh_num.specs.Totals.{total}
+use Rattle.hh_share.specs.Totals.{total}
 use Rattle.hh_calc.proofs.result.residual_of.Given as goal
 
 -- minus the sum of the charges so far

@@ -1,6 +1,6 @@
 use Rattle.std.proofs.Common.{◌≡◌, ◌*◌, ◌≤◌, true, map, take}
 use Rattle.std.specs.Prelude.{neg_ℤ, unsigned_abs}
-use Rattle.hh_num.specs.Totals.{total}
+use Rattle.hh_share.specs.Totals.{total}
 use Rattle.hh_calc.specs.Formulas.{figures, period_sums}
 use Rattle.hh_calc.specs.Limits.{are_accounts_within, greatest_cash}
 use Rattle.hh_calc.proofs.settle.charged_accounts.Given as goal

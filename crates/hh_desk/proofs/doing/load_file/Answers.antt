@@ -1,11 +1,11 @@
 use Rattle.std.proofs.Common.{rules, subst, arith, w64, SFits, ap, inl, ◌∙◌, ℤ}
 use Rattle.std.proofs.lemmas.Int.{to_z-of_z}
-use Rattle.hh_office.specs.Promises.{HandleStep, RepresentsAfter}
 use Rattle.hh_requests.specs.declared.request.Request.{Request}
 use Rattle.hh_states.specs.States.{State}
-use Rattle.hh_office.specs.Machine.{next}
-use Rattle.hh_office.specs.Transitions.{Transition}
-use Rattle.hh_office.specs.Views.{midnight_of}
+use Rattle.hh_http_serve.specs.Machine.{next}
+use Rattle.hh_http_serve.specs.Transitions.{Transition}
+use Rattle.hh_http_serve.specs.Views.{midnight_of}
+use Rattle.hh_http_serve.specs.Promises.{HandleStep, RepresentsAfter}
 use Rattle.hh_script.specs.Steps.{load_of}
 use Rattle.hh_desk.specs.Doing.{request_of}
 use Rattle.hh_desk.proofs.CrashLaws.{crash_alike}

@@ -1,6 +1,6 @@
 use Rattle.std.proofs.Common.{subst, sym}
 use Rattle.hh_devices.specs.DeviceChanges.{change}
-use Rattle.hh_office.specs.Refusals.{CountsMore}
+use Rattle.hh_http_serve.specs.Refusals.{CountsMore}
 use Rattle.hh_script.specs.Reports.{report_of}
 use Rattle.hh_script.specs.Steps.{load_of, run_of}
 use Rattle.hh_desk.specs.Errands.{EndsErrand, errand_of}

@@ -1,6 +1,6 @@
 use Rattle.hh_devices.specs.DeviceChanges.{change}
-use Rattle.hh_office.specs.Reports.{report_for}
-use Rattle.hh_office.specs.Views.{midnight_of}
+use Rattle.hh_http_serve.specs.Reports.{report_for}
+use Rattle.hh_http_serve.specs.Views.{midnight_of}
 use Rattle.hh_desk.proofs.ErrandCrashLaws.{if_written, nothing_as}
 use Rattle.hh_desk.proofs.ReportLaws.{report_stops}
 use Rattle.hh_desk.proofs.reporting.write_report.Goals as goal

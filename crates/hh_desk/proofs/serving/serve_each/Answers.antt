@@ -1,5 +1,5 @@
 use Rattle.std.proofs.Common.{◌≡◌, rules, subst, arith}
-use Rattle.hh_office.specs.Refusals.{CountsMore}
+use Rattle.hh_http_serve.specs.Refusals.{CountsMore}
 use Rattle.hh_desk.specs.Serving.{ServesEach}
 use Rattle.hh_desk.proofs.ServingLaws.{refusals_more, serves_more, serves_none}
 use Rattle.hh_desk.proofs.serving.serve_each.Goals as goal

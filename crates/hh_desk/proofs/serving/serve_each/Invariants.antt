@@ -1,5 +1,5 @@
-use Rattle.hh_office.specs.Refusals.{CountsUp, HasRefused}
-use Rattle.hh_office.specs.Views.{IsSure}
+use Rattle.hh_http_serve.specs.Refusals.{CountsUp, HasRefused}
+use Rattle.hh_http_serve.specs.Views.{IsSure}
 use Rattle.hh_desk.specs.Serving.{ServesEach}
 use Rattle.hh_desk.proofs.serving.serve_each.Given as goal
 

@@ -1,7 +1,7 @@
 use Rattle.std.proofs.Common.{[], ◌∷◌, None, Some, refl, rules, subst, w64, SFits}
 use Rattle.std.proofs.lemmas.Int.{to_z-of_z}
 use Rattle.hh_sockets.specs.Arrivals.{exchange}
-use Rattle.hh_office.specs.Refusals.{CountsMore}
+use Rattle.hh_http_serve.specs.Refusals.{CountsMore}
 use Rattle.hh_desk.specs.Serving.{ServesAll}
 use Rattle.hh_desk.proofs.ServingLaws.{one_served}
 use Rattle.hh_desk.proofs.serving.serve_now.Goals as goal

@@ -1,8 +1,8 @@
 use Rattle.std.proofs.Common.{ap, inr, refl, subst, sym, Err}
 use Rattle.sqlite.specs.Held.{state}
 use Rattle.hh_devices.specs.DeviceChanges.{change}
-use Rattle.hh_desk.specs.Errands.{errand_of}
-use Rattle.hh_desk.specs.declared.errand.ErrandStop.TheVariants as stop
+use Rattle.hh_session.specs.Errands.{errand_of}
+use Rattle.hh_session.specs.errand.ErrandStop.TheVariants as stop
 use Rattle.hh_sqlstore.specs.Stores.{content_in}
 use Rattle.hh_kept_office.specs.Crashes.{KeptLeaves}
 use Rattle.hh_kept_office.proofs.CrashLaws.{unused_leaves, used_leaves}

@@ -1,8 +1,8 @@
 use Rattle.std.proofs.Common.{IsTrue, subst, sym}
 use Rattle.sqlite.specs.Held.{state}
 use Rattle.hh_devices.specs.DeviceChanges.{change}
-use Rattle.hh_desk.specs.Errands.{errand_of}
-use Rattle.hh_desk.specs.Refusals.{CountsMore}
+use Rattle.hh_session.specs.Errands.{errand_of}
+use Rattle.hh_session.specs.Refusals.{CountsMore}
 use Rattle.hh_sqlstore.specs.Stores.{content_in}
 use Rattle.hh_kept_office.specs.Kept.{LeavesKept}
 use Rattle.hh_kept_office.proofs.CrashLaws.{connection_leaves}

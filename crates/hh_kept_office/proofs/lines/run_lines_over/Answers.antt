@@ -1,9 +1,9 @@
 use Rattle.std.proofs.Common.{map, IsTrue, subst, sym}
 use Rattle.hh_devices.specs.DeviceChanges.{change}
-use Rattle.hh_desk.specs.Refusals.{CountsMore}
 use Rattle.hh_script.specs.Steps.{step_of}
 use Rattle.hh_session.proofs.CourseLaws.{OnOk-map, ended_early}
 use Rattle.hh_session.specs.Course.{AllDone}
+use Rattle.hh_session.specs.Refusals.{CountsMore}
 use Rattle.hh_kept_office.proofs.OverLaws.{early_over, runs_over}
 use Rattle.hh_kept_office.proofs.lines.run_lines_over.Goals as goal
 

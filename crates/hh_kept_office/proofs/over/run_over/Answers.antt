@@ -1,7 +1,7 @@
 use Rattle.std.proofs.Common.{IsTrue, subst, sym}
 use Rattle.hh_devices.specs.DeviceChanges.{change}
-use Rattle.hh_desk.specs.Refusals.{CountsMore}
-use Rattle.hh_desk.specs.Errands.{errand_of}
+use Rattle.hh_session.specs.Refusals.{CountsMore}
+use Rattle.hh_session.specs.Errands.{errand_of}
 use Rattle.hh_kept_office.proofs.CrashLaws.{leaves_over}
 use Rattle.hh_kept_office.proofs.KeptLaws.{over_market}
 use Rattle.hh_kept_office.proofs.over.run_over.Goals as goal

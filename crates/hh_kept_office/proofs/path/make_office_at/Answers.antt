@@ -1,7 +1,7 @@
 use Rattle.std.proofs.Common.{◌≡◌, ◌≢◌, ◌∙◌, ap, inr, refl, rules, subst, sym, false}
 use Rattle.std.specs.Prelude.{IfErr}
 use Rattle.hh_devices.specs.DeviceChanges.{change}
-use Rattle.hh_desk.specs.declared.errand.ErrandStop.TheVariants as stop
+use Rattle.hh_session.specs.errand.ErrandStop.TheVariants as stop
 use Rattle.hh_kept_office.specs.declared.path.PathStop.TheVariants.{Errand}
 use Rattle.hh_kept_office.specs.Paths.{at_path}
 use Rattle.hh_kept_office.specs.Places.{places_of, shown_by}

@@ -2,9 +2,9 @@ use Rattle.std.proofs.Common.{map, subst}
 use Rattle.sqlite.specs.Held.{state}
 use Rattle.hh_devices.specs.DeviceChanges.{change}
 use Rattle.hh_sqlstore.specs.Stores.{content_in}
-use Rattle.hh_desk.specs.Refusals.{CountsMore}
 use Rattle.hh_script.specs.Steps.{step_of}
 use Rattle.hh_session.specs.Course.{AllDone}
+use Rattle.hh_session.specs.Refusals.{CountsMore}
 use Rattle.hh_kept_office.specs.Running.{EarlyOver, WritesOver}
 use Rattle.hh_kept_office.proofs.RunningLaws.{early_new, err_by, if_early, ok_by, writes_new}
 use Rattle.hh_kept_office.proofs.running.run_in_new_database.Goals as goal

@@ -3,10 +3,10 @@ use Rattle.std.specs.Prelude.{⊤}
 use Rattle.sqlite.specs.Held.{state}
 use Rattle.hh_devices.specs.DeviceChanges.{change}
 use Rattle.hh_script.specs.Steps.{step_of}
-use Rattle.hh_desk.specs.Refusals.{CountsMore}
 use Rattle.hh_kept_office.specs.Running.{EarlyOver, WritesOver}
 use Rattle.hh_kept_office.proofs.RunningLaws.{if_early}
 use Rattle.hh_session.specs.Course.{AllDone}
+use Rattle.hh_session.specs.Refusals.{CountsMore}
 use Rattle.hh_sqlstore.specs.Stores.{content_in}
 use Rattle.hh_kept_office.specs.Places.{shown_by}
 use Rattle.hh_kept_office.proofs.ScriptLaws.{early_file, early_then, writes_then}

@@ -3,7 +3,7 @@ use Rattle.std.proofs.lemmas.List.{nil_from_length}
 use Rattle.sqlite.specs.Held.{state}
 use Rattle.sqlite.specs.State.{HasCleanDisk}
 use Rattle.sqlite.proofs.StateLemmas.{survives_then}
-use Rattle.hh_states.specs.declared.run_keys.CreditKey.{CreditKey}
+use Rattle.hh_keyed_rows.specs.run_keys.CreditKey.{CreditKey}
 use Rattle.hh_sqlrows.specs.Forms.{PutsAll}
 use Rattle.hh_sqlrows.specs.OfficeTables.{credits}
 use Rattle.hh_sqlrows.proofs.ManyLaws.{puts_none, puts_then}

@@ -2,7 +2,7 @@ use Rattle.std.proofs.Common.{◌≡◌, ◌++◌, List, ℤ, IsTrue}
 use Rattle.std.specs.Slice.Iter.{chunks_rest, chunks_size}
 use Rattle.sqlite.specs.State.{HasCleanDisk, Survives}
 use Rattle.sqlite.specs.Held.{state}
-use Rattle.hh_states.specs.declared.run_keys.CreditKey.{CreditKey}
+use Rattle.hh_keyed_rows.specs.run_keys.CreditKey.{CreditKey}
 use Rattle.hh_sqlrows.specs.Forms.{PutsAll}
 use Rattle.hh_sqlrows.specs.Office.{IsOffice}
 use Rattle.hh_sqlrows.specs.OfficeTables.{credits}

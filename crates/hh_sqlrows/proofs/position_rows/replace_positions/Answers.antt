@@ -2,8 +2,8 @@ use Rattle.std.proofs.Common.{◌≡◌, ◌+◌, ◌++◌, ◌∷◌, [], ◌�
 use Rattle.sqlite.specs.Held.{state}
 use Rattle.sqlite.specs.State.{HasCleanDisk}
 use Rattle.sqlite.proofs.StateLemmas.{survives_then}
-use Rattle.hh_rules.specs.declared.positions.Position.{Position}
-use Rattle.hh_rules.specs.declared.positions.PositionKey.{PositionKey}
+use Rattle.hh_keyed_rows.specs.positions.Position.{Position}
+use Rattle.hh_keyed_rows.specs.positions.PositionKey.{PositionKey}
 use Rattle.hh_sqlrows.specs.Forms.{PutsAll}
 use Rattle.hh_sqlrows.specs.OfficeTables.{positions}
 use Rattle.hh_sqlrows.proofs.ManyLaws.{puts_more, take_next}

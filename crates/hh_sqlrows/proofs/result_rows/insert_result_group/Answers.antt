@@ -1,7 +1,7 @@
 use Rattle.std.proofs.Common.{OnOk, arith, length, subst, ◌∙◌, ◌≡◌, ap, List, map}
 use Rattle.std.proofs.lemmas.List.{length-map}
 use Rattle.sqlite.specs.Held.{state}
-use Rattle.hh_states.specs.declared.run_keys.ResultKey.{ResultKey}
+use Rattle.hh_keyed_rows.specs.run_keys.ResultKey.{ResultKey}
 use Rattle.hh_keyed_rows.specs.declared.amounts.AccountAmounts.{AccountAmounts}
 use Rattle.hh_sqlrows.specs.Forms.{PutsAll}
 use Rattle.hh_sqlrows.specs.OfficeTables.{amount_entry, results}

@@ -3,8 +3,8 @@ use Rattle.std.proofs.lemmas.List.{map-append, nil_from_length}
 use Rattle.sqlite.specs.Held.{state}
 use Rattle.sqlite.specs.State.{HasCleanDisk}
 use Rattle.sqlite.proofs.StateLemmas.{survives_then}
-use Rattle.hh_calc.specs.declared.result.AccountRow.{AccountRow}
-use Rattle.hh_states.specs.declared.run_keys.ResultKey.{ResultKey}
+use Rattle.hh_reports.specs.result.AccountRow.{AccountRow}
+use Rattle.hh_keyed_rows.specs.run_keys.ResultKey.{ResultKey}
 use Rattle.hh_keyed_rows.specs.declared.amounts.AccountAmounts.{AccountAmounts}
 use Rattle.hh_sqlrows.specs.Forms.{PutsAll}
 use Rattle.hh_sqlrows.specs.OfficeTables.{amount_entry, results}

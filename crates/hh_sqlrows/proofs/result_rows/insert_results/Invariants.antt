@@ -2,8 +2,8 @@ use Rattle.std.proofs.Common.{◌≡◌, ◌++◌, List, IsTrue, map}
 use Rattle.std.specs.Slice.Iter.{chunks_rest, chunks_size}
 use Rattle.sqlite.specs.State.{HasCleanDisk, Survives}
 use Rattle.sqlite.specs.Held.{state}
-use Rattle.hh_calc.specs.declared.result.AccountRow.{AccountRow}
-use Rattle.hh_states.specs.declared.run_keys.ResultKey.{ResultKey}
+use Rattle.hh_reports.specs.result.AccountRow.{AccountRow}
+use Rattle.hh_keyed_rows.specs.run_keys.ResultKey.{ResultKey}
 use Rattle.hh_sqlrows.specs.Forms.{PutsAll}
 use Rattle.hh_sqlrows.specs.Office.{IsOffice}
 use Rattle.hh_sqlrows.specs.OfficeTables.{amount_entry, results}

@@ -1,7 +1,7 @@
 use Rattle.std.proofs.Common.{[], ◌∷◌, refl}
 use Rattle.sqlite.specs.Held.{state}
-use Rattle.hh_states.specs.Runs.{run_key_cmp}
-use Rattle.hh_states.proofs.KeyLaws.{exact_run_keys, run_key_total}
+use Rattle.hh_keyed_rows.specs.Runs.{run_key_cmp}
+use Rattle.hh_keyed_rows.proofs.KeyLaws.{exact_run_keys, run_key_total}
 use Rattle.hh_keyed_rows.specs.Keys.{run_key_columns}
 use Rattle.hh_keyed_rows.proofs.KeyCodecs.{run_key_codec}
 use Rattle.hh_sqlrows.specs.OfficeTables.{results}

@@ -2,8 +2,8 @@ use Rattle.std.proofs.Common.{◌≡◌, ℕ, List, rules, refl, ap, subst, ◌�
 use Rattle.std.specs.Prelude.{IsTrue, option_map}
 use Rattle.std.specs.FinMap.{find}
 use Rattle.hh_devices.specs.DeviceChanges.{change}
-use Rattle.hh_reports.specs.DayReport.{day_report_text}
-use Rattle.hh_reports.specs.declared.run.ReportedRun.{ReportedRun}
+use Rattle.hh_store.specs.DayReport.{day_report_text}
+use Rattle.hh_store.specs.run.ReportedRun.{ReportedRun}
 use Rattle.hh_states.specs.Reads.{results_in}
 use Rattle.hh_states.specs.Runs.{run_key_cmp}
 use Rattle.hh_store.specs.Outputs.{Outputs, day_report_with, reported_as}

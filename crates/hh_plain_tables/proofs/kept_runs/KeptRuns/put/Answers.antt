@@ -2,7 +2,7 @@ use Rattle.std.proofs.Common.{◌≡◌, ◌∙◌, ap, subst, sym, None}
 use Rattle.std.specs.FinMap.{find}
 use Rattle.hh_states.specs.Changes.{RunChangeView}
 use Rattle.hh_states.specs.Runs.{run_key_cmp}
-use Rattle.hh_store.specs.OwnRows.{AreOwnRows}
+use Rattle.hh_kept_rows.specs.OwnRows.{AreOwnRows}
 use Rattle.hh_plain_tables.specs.steps.KeptRuns.{kept_with, summaries_of}
 use Rattle.hh_plain_tables.proofs.KeptRunLaws.{all_own, kept_more, still_kept, tables_in}
 use Rattle.hh_plain_tables.proofs.kept_runs.KeptRuns.put.Goals as goal

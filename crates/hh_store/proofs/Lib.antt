@@ -1,0 +1,1 @@
+pub use Rattle.hh_states.proofs.KeyLaws
