@@ -110,6 +110,14 @@ class Page(unittest.TestCase):
         self.assertGreater(len(names), 20)
         self.assertEqual([], sorted(name for name in names if not is_there(name)))
 
+    def test_the_code_of_each_section_is_there(self):
+        sections = self.text.split("\n## What is kept")[1].split("\n## What is proved")[0].split("\n## ")[1:]
+        for section in sections:
+            paths = re.findall(r"`(hh_\w+::[\w:]+)`", section)
+            with self.subTest(section.split("\n")[0]):
+                self.assertTrue(paths)
+                self.assertEqual([], [path for path in paths if clauses_at(path) is None])
+
     def test_a_name_that_is_not_there(self):
         for line in ": hh_office/Machine stepp", ": hh_office/Machin step", ": hh_offic/Machine step":
             with self.subTest(line), self.assertRaises(machine.Unknown):
