@@ -194,6 +194,9 @@ class Imports(unittest.TestCase):
         bill = self.specs.place("high.specs.declared.bill.Bill")
         self.assertEqual(["high/bill Bill", "low/rate Band"], sorted(map(name_of, self.specs.reached([bill]))))
 
+    def test_how_a_block_is_printed(self):
+        self.assertEqual(PRINTED.split("\n"), list(machine.page(self.specs, "Words.\n\n: low/rate Change\n: low/Rates Rates shared doubled")))
+
 
 RATES = """\
 -- Rates.
@@ -210,6 +213,13 @@ sum_of rates = rates.first + rates.second
 -- a number, added to itself
 unfoldable pub doubled : ℕ → ℕ
 doubled n = sum_of (record { first = n; second = n })
+
+-- for how many
+module _ (count : ℕ) where
+  -- what each gets,
+  -- rounded down
+  abbrev pub shared : ℕ → ℕ
+  shared n = n / count
 
 -- nothing names this
 abbrev pub alone : ℕ
@@ -229,7 +239,38 @@ pub struct Rate {
     pub band: Band,
     pub pence: u32,
 }
+
+/// What becomes of a rate.
+pub enum Change {
+    /// It is another.
+    Changed {
+        from: Band,
+        to: Band,
+    },
+    Kept,
+}
 """
+# Without the types of functions, with a variant on one line, and with the file where another begins.
+PRINTED = """\
+Words.
+
+```
+/// low/rate: What becomes of a rate.
+pub enum Change {
+    Changed { from: Band, to: Band },
+    Kept,
+}
+-- low/Rates: two rates
+pub record Rates : Type 0 where
+  pub first : ℕ
+  pub second : ℕ
+module _ (count : ℕ) where
+  -- what each gets,
+  -- rounded down
+  shared n = n / count
+-- a number, added to itself
+doubled n = sum_of (record { first = n; second = n })
+```"""
 
 
 if __name__ == "__main__":

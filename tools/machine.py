@@ -16,7 +16,7 @@ import sys
 
 from contracts import margin
 from sources import HOME, uses_of_crates
-from specs import Module, Specs, Type
+from specs import Module, Specs, Type, Unresolved
 
 LIST = pathlib.Path(__file__).resolve().with_suffix(".txt")
 # The definition of the machine: the reply to a request, and the state after it.
@@ -44,8 +44,8 @@ def body_of(definition):
     lines = definition.lines
     if lines[0].split()[0] == "pub":
         return lines
-    indent = " " * margin(lines[0])
-    return list(itertools.dropwhile(lambda line: not line.startswith(f"{indent}{definition.name} "), lines))
+    begins = f"{' ' * margin(lines[0])}{definition.name} "
+    return list(itertools.dropwhile(lambda line: not line.startswith(begins), lines)) or lines
 
 
 def variants(lines):
@@ -63,11 +63,11 @@ def shown(one, before):
     """The lines that show a definition or a type, behind the one before it in its block. The file is named where another begins."""
     comment = list(one.comment)
     if before is None or (before.crate, before.module) != (one.crate, one.module):
-        sign, _, said = comment[0].lstrip().partition(" ") if comment else ("--", "", "what is here has no comment")
+        sign, _, said = comment[0].lstrip().partition(" ") if comment else ("--", "", one.name)
         comment[:1] = [f"{' ' * margin(one.lines[0])}{sign} {one.crate}/{one.module}: {said}"]
     if isinstance(one, Type):
         return [*comment, *variants(line for line in one.lines if not line.lstrip().startswith("///"))]
-    heads = [line for head in one.heads for line in head if before is None or head not in before.heads]
+    heads = [line for head in one.heads if head not in getattr(before, "heads", ()) for line in head]
     return [*heads, *comment, *body_of(one)]
 
 
@@ -87,8 +87,9 @@ def rest(reached, printed):
         for one in sorted(left, key=lambda one: (isinstance(one, Type), one.module, one.name)):
             if one.crate == crate:
                 files.setdefault(one.module, []).append(one.name)
-        if files:
-            yield f"| `{crate}` | {'; '.join(f'*{file}*: ' + ' '.join(f'`{name}`' for name in names) for file, names in files.items())} |"
+        told = [f"*{file}*: {' '.join(f'`{name}`' for name in names)}" for file, names in files.items()]
+        if told:
+            yield f"| `{crate}` | {'; '.join(told)} |"
 
 
 def page(specs, text):
@@ -108,8 +109,8 @@ def main():
     specs = Specs(os.path.join(HOME, "crates"))
     try:
         sys.stdout.write("\n".join(page(specs, LIST.read_text(encoding="utf-8"))))
-    except Unknown as unknown:
-        print(unknown, file=sys.stderr)
+    except (Unknown, Unresolved) as fault:
+        print(fault, file=sys.stderr)
         return 1
     return 0
 

@@ -26,7 +26,9 @@ STYLE = """\
 .line { stroke: #b8b8b8 } .cut { stroke: #ff9a5c } .head { fill: #b8b8b8 }
 }
 </style>
-<marker id="head" viewBox="0 0 8 8" refX="7" refY="4" markerWidth="8" markerHeight="8" orient="auto"><path class="head" d="M0 0L8 4L0 8Z"/></marker>"""
+<marker id="head" viewBox="0 0 8 8" refX="7" refY="4" markerWidth="8" markerHeight="8" orient="auto">
+<path class="head" d="M0 0L8 4L0 8Z"/>
+</marker>"""
 
 # Each level with what it has. Between each two a relation. Behind a name is the file that defines or cites it, and what it says.
 LEVELS = [
@@ -121,7 +123,8 @@ def layers():
     told = "; ".join(f"{layer}: {', '.join(crates)}" for layer, crates in rows.items())
     picture = Picture(980, height, "The layers, with their crates", f"From the lowest layer up. {told}.")
     picture.words(20, 30, "The layers, with their crates", size=16, weight="bold")
-    picture.words(20, 52, "A crate uses crates before it in its layer, and crates of the layers below. Dashed: no part of the program settle.", "faint", 12)
+    said = "A crate uses crates before it in its layer, and crates of the layers below. Dashed: no part of the program settle."
+    picture.words(20, 52, said, "faint", 12)
     y = 70
     for layer, placed in lines:
         picture.box(12, y, 956, 30 * len(placed) + 8, look="band")
@@ -140,7 +143,8 @@ def levels():
     told = f"From top to bottom: {', '.join(name for name, _, _ in LEVELS)}. Between each two a relation. {relations}."
     picture = Picture(980, 470, "The four levels of an office", told)
     picture.words(20, 30, "The four levels of an office", size=16, weight="bold")
-    picture.words(20, 52, "The machine computes by the definitions. The program keeps tables, in memory or in a database, and a disk keeps its files.", "faint", 12)
+    said = "The machine computes by the definitions. The program keeps tables, in memory or in a database, and a disk keeps its files."
+    picture.words(20, 52, said, "faint", 12)
     for at, (name, place, said) in enumerate(LEVELS):
         y = 70 + 104 * at
         picture.box(20, y, 940, 52)
@@ -160,8 +164,8 @@ def tables():
     kept = [table for of_kind in KINDS.values() for table in of_kind]
     told = "; ".join(f"a file of {kind} is put into {' and '.join(into)}" for kind, into in KINDS.items())
     read = "; ".join(f"the report {report} reads {' and '.join(of)}" for report, of in REPORTS.items())
-    told = f"{told}. Each accepted file is kept in files, and what init is given in settings. A run reads the tables of rows, and the results of"
-    told = f"{told} the run before. It writes {', '.join(WRITTEN)}; {read}. Beside these a database has {', '.join(BESIDE)}."
+    told = f"{told}. Each accepted file is kept in files, and what init is given in settings. A run reads the tables of rows,"
+    told = f"{told} and the results of the run before. It writes {', '.join(WRITTEN)}; {read}. A database also has {', '.join(BESIDE)}."
     picture = Picture(980, 560, "From files to tables to reports", told)
     picture.words(20, 30, "From files to tables to reports", size=16, weight="bold")
     for x, said in (30, "kind of file"), (250, "tables of what is registered and in force"), (560, "tables of runs"), (800, "report"):
@@ -179,7 +183,8 @@ def tables():
         picture.box(250, places[table], 150, 32, table)
         picture.words(30, places[table] + 20, said, "faint", 12)
         picture.line(f"M205 {places[table] + 16}H248")
-    picture.words(30, 546, f"A database calls references refs. It also has {', '.join(BESIDE)}, so that a run settles again only what has changed.", "faint", 12)
+    said = f"A database calls references refs. It also has {', '.join(BESIDE)}, so that a run settles again only what has changed."
+    picture.words(30, 546, said, "faint", 12)
     top, bottom = places[kept[0]] + 16, places[kept[-1]] + 16
     middle = (top + bottom) / 2
     picture.line(f"M430 {top}V{bottom}", head=False)
@@ -204,8 +209,8 @@ def tables():
 
 def runs():
     """The life of a date, from its notifications to its last run."""
-    told = "A row of a contract or a reallocation counts if it comes before the deadline of its period. When the day is over the date may be"
-    told = f"{told} settled, by the kinds of run in this order: {', '.join(RUNS)}. SF is the first. The others may be skipped."
+    told = "A row of a contract or a reallocation counts if it comes before the deadline of its period. When the day is over the date"
+    told = f"{told} may be settled, by the kinds of run in this order: {', '.join(RUNS)}. SF is the first. The others may be skipped."
     picture = Picture(980, 300, "The life of a date", told)
     picture.words(20, 30, "The life of a date", size=16, weight="bold")
     picture.line("M20 150H960")
@@ -221,9 +226,12 @@ def runs():
     for at, kind in enumerate(RUNS):
         picture.box(450 + 84 * at, 130, 60, 40, kind, weight="bold")
         picture.words(480 + 84 * at, 188, "day nets" if at == 0 else "differences", "words", 11, "middle")
-    picture.words(450, 210, "posted: by SF the day nets, later what differs from the date's run before", "faint", 11)
-    picture.words(20, 262, "Each run settles the date by all rows that had been accepted when it was ordered, and keeps its rows for good.", size=12)
-    picture.words(20, 282, "Refused: 50 after a later kind, 51 before SF, 52 until the day is over, 53 and 54 without a price or a reading.", "stop", 12)
+    said = "posted: by SF the day nets, later what differs from the date's run before"
+    picture.words(450, 210, said, "faint", 11)
+    said = "Each run settles the date by all rows that had been accepted when it was ordered, and keeps its rows for good."
+    picture.words(20, 262, said, size=12)
+    said = "Refused: 50 after a later kind, 51 before SF, 52 until the day is over, 53 and 54 without a price or a reading."
+    picture.words(20, 282, said, "stop", 12)
     return picture
 
 
@@ -236,7 +244,7 @@ def halves(said):
 def request():
     """The time line of a request that changes the office, with its commit."""
     told = "; ".join(f"{name.split('::')[-1]}: {said}" for name, said in STEPS)
-    told = f"In this order. {told}. A crash before the commit leaves the tables before the request, and one after it the tables after it."
+    told = f"In this order. {told}. A crash before the commit leaves the tables before the file, and one after it the tables after it."
     picture = Picture(980, 330, "The time line of settle load, with its commit", told)
     picture.words(20, 30, "The time line of settle load, with its commit", size=16, weight="bold")
     picture.line("M20 130H960")
@@ -250,7 +258,7 @@ def request():
     picture.words(commit + 4, 72, "a crash until here leaves the tables before the file", "stop", 12, "end")
     picture.words(commit + 22, 72, "the tables after it", "stop", 12)
     picture.words(20, 236, "A refusal ends the request there: nothing was written, and nothing is changed.", size=12)
-    picture.words(20, 256, "A crash during the commit leaves the tables before the file or those after it, and nothing in between.", size=12)
+    picture.words(20, 256, "A crash during the commit leaves the tables before the file or after it, and nothing in between.", size=12)
     picture.words(20, 276, "Whoever got the answer finds the file in the tables, unless the answer is 90 or 91.", size=12)
     instead = ", ".join(f"{path.split('::')[-1]} for {name}" for name, path in OF_A_RUN.items())
     picture.words(20, 312, f"A run takes the same way, with other functions: {instead}.", "faint", 12)
