@@ -31,7 +31,7 @@ alone = 0
 CODE = """\
 //! Rates.
 
-ghost use Rattle.low.specs.Rates.{Rates, doubled as twice};
+ghost use Rattle.hh_low.specs.Rates.{Rates, doubled as twice};
 
 /// A rate.
 pub struct Rate {
@@ -67,7 +67,7 @@ pub fn adds()
 {}
 """
 OVER = """\
-ghost use Rattle.low.specs.Rates.{doubled};
+ghost use Rattle.hh_low.specs.Rates.{doubled};
 
 /// The units of a rate, added to themselves.
 pub fn twofold(rate: &Rate) -> u32
@@ -77,11 +77,11 @@ pub fn twofold(rate: &Rate) -> u32
 }
 """
 EDITS = {
-    "low/must-fail/rate_once.edit": "file: src/rate.rt\nold: add(self.units, self.units)\nnew: self.units\n",
-    "low/must-fail-by-hand/sum_of_one.edit": "file: src/rate.rt\nold: a.wrapping_add(b)\nnew: a\n",
-    "high/must-fail/rate_untouched.edit": "file: src/lib.rt\nold: rate.twofold()\nnew: rate.units()\n",
+    "hh_low/must-fail/rate_once.edit": "file: src/rate.rt\nold: add(self.units, self.units)\nnew: self.units\n",
+    "hh_low/must-fail-by-hand/sum_of_one.edit": "file: src/rate.rt\nold: a.wrapping_add(b)\nnew: a\n",
+    "hh_high/must-fail/rate_untouched.edit": "file: src/lib.rt\nold: rate.twofold()\nnew: rate.units()\n",
 }
-DOUBLED = ": Twice\n  defined low/Rates doubled\n  stated market.md#rounding\n"
+DOUBLED = ": Twice\n  defined hh_low/Rates doubled\n  stated market.md#rounding\n"
 
 
 class Page(unittest.TestCase):
@@ -117,7 +117,7 @@ class Found(unittest.TestCase):
         at_home = mock.patch.object(wrong_bodies, "HOME", self.crates.parent)
         at_home.start()
         self.addCleanup(at_home.stop)
-        files = {"low/specs/Lib.antt": "pub mod Rates\n", "low/specs/Rates.antt": SPECS, "low/src/rate.rt": CODE, "high/src/lib.rt": OVER, **EDITS}
+        files = {"hh_low/specs/Lib.antt": "pub mod Rates\n", "hh_low/specs/Rates.antt": SPECS, "hh_low/src/rate.rt": CODE, "hh_high/src/lib.rt": OVER, **EDITS}
         for place, text in files.items():
             (self.crates / place).parent.mkdir(parents=True, exist_ok=True)
             (self.crates / place).write_text(text, encoding="utf-8")
@@ -130,15 +130,15 @@ class Found(unittest.TestCase):
 
     def test_what_names_a_definition(self):
         """The contracts of the definition's crate, a law's too. Their wrong bodies."""
-        self.assertEqual((["low: `Rate::twofold`", "low: `adds`"], ["rate_once"]), self.found(f"{DOUBLED}  test a"))
+        self.assertEqual((["hh_low: `Rate::twofold`", "hh_low: `adds`"], ["rate_once"]), self.found(f"{DOUBLED}  test a"))
 
     def test_what_a_wrong_body_turns(self):
         functions, bodies = self.found(f"{DOUBLED}  test a\n  wrong sum_of_one")
-        self.assertEqual((["low: `Rate::twofold`", "low: `adds`", "low: `add`"], ["rate_once"]), (functions, bodies))
+        self.assertEqual((["hh_low: `Rate::twofold`", "hh_low: `adds`", "hh_low: `add`"], ["rate_once"]), (functions, bodies))
 
     def test_what_is_named_by_other_crates_alone(self):
-        (self.crates / "low/src/rate.rt").write_text(CODE.replace("twice", "Rates"), encoding="utf-8")
-        self.assertEqual((["high: `twofold`"], ["rate_untouched"]), self.found(f"{DOUBLED}  test a"))
+        (self.crates / "hh_low/src/rate.rt").write_text(CODE.replace("twice", "Rates"), encoding="utf-8")
+        self.assertEqual((["hh_high: `twofold`"], ["rate_untouched"]), self.found(f"{DOUBLED}  test a"))
 
     def test_what_nothing_names(self):
         self.assertEqual(([], []), self.found(DOUBLED.replace("doubled", "alone") + "  test a"))
@@ -147,7 +147,7 @@ class Found(unittest.TestCase):
     def test_definitions_that_many_name(self):
         """Their wrong bodies are of many rules."""
         more = "".join(f"\npub fn more_{n}()\n    ensures {{ twice {n} ≡ 2 * {n} }}\n{{}}\n" for n in range(rules.MOST))
-        (self.crates / "low/src/rate.rt").write_text(CODE + more, encoding="utf-8")
+        (self.crates / "hh_low/src/rate.rt").write_text(CODE + more, encoding="utf-8")
         functions, bodies = self.found(f"{DOUBLED}  test a")
         self.assertEqual((2 + rules.MOST, []), (len(functions), bodies))
 
@@ -167,6 +167,7 @@ class Lists(unittest.TestCase):
             (f"{late}  code hh_names read", "rules.txt: hh_names has 5 functions read, and not one"),
             (f"{late}  coded take_row", "rules.txt: A late row: what is 'coded take_row'?"),
             (f"{late}  code", "rules.txt: A late row: what is 'code'?"),
+            (f"{late}  defined hh_rules/Lateness", "rules.txt: A late row: what is 'defined hh_rules/Lateness'?"),
             (late.replace("  test a\n", ""), "rules.txt: A late row: there is no line 'test'"),
         ):
             with self.subTest(told), self.assertRaises(rules.Unknown) as fault:

@@ -29,6 +29,8 @@ CRATES = pathlib.Path(HOME) / "crates"
 LIST = pathlib.Path(__file__).resolve().with_suffix(".txt")
 # A definition that the contracts of more functions name is of many rules. The wrong bodies of all these functions aren't shown.
 MOST = 6
+# What the list says of a rule.
+LINE = re.compile(r" +(?P<kind>defined|stated|wrong|test|code)(?: (?P<place>hh_[\w/]+))? (?P<names>\S.*)")
 # The body of a law.
 EMPTY = re.compile(r"(?m)^\{\}$")
 # What stands in the place of a wrong body where none is needed.
@@ -66,14 +68,11 @@ def rule_of(words, lines):
     """The rule that a block of the list gives."""
     rule = Rule(words, [], [], [], [], [])
     for line in lines:
-        kind, *names = line.split()
-        if kind not in Rule._fields[1:] or not names:
+        found = LINE.fullmatch(line)
+        if not found or (found["kind"] == "defined" and not found["place"]):
             raise Unknown(f"{LIST.name}: {words}: what is '{line.strip()}'?")
-        if kind == "defined" or (kind == "code" and names[0].startswith("hh_")):
-            names = [(names[0], names[1:])]
-        elif kind == "code":
-            names = [(None, names)]
-        getattr(rule, kind).extend(names)
+        names = found["names"].split()
+        getattr(rule, found["kind"]).extend([(found["place"], names)] if found["kind"] in ("defined", "code") else names)
     for kind in "defined", "stated", "test":
         if not getattr(rule, kind):
             raise Unknown(f"{LIST.name}: {words}: there is no line '{kind}'")
