@@ -81,6 +81,13 @@ EDITS = {
     "hh_low/must-fail-by-hand/sum_of_one.edit": "file: src/rate.rt\nold: a.wrapping_add(b)\nnew: a\n",
     "hh_high/must-fail/rate_untouched.edit": "file: src/lib.rt\nold: rate.twofold()\nnew: rate.units()\n",
 }
+FILES = {
+    "hh_low/specs/Lib.antt": "pub mod Rates\n",
+    "hh_low/specs/Rates.antt": SPECS,
+    "hh_low/src/rate.rt": CODE,
+    "hh_high/src/lib.rt": OVER,
+    **EDITS,
+}
 DOUBLED = ": Twice\n  defined hh_low/Rates doubled\n  stated market.md#rounding\n"
 
 
@@ -117,8 +124,7 @@ class Found(unittest.TestCase):
         at_home = mock.patch.object(wrong_bodies, "HOME", self.crates.parent)
         at_home.start()
         self.addCleanup(at_home.stop)
-        files = {"hh_low/specs/Lib.antt": "pub mod Rates\n", "hh_low/specs/Rates.antt": SPECS, "hh_low/src/rate.rt": CODE, "hh_high/src/lib.rt": OVER, **EDITS}
-        for place, text in files.items():
+        for place, text in FILES.items():
             (self.crates / place).parent.mkdir(parents=True, exist_ok=True)
             (self.crates / place).write_text(text, encoding="utf-8")
 

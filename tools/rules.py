@@ -7,7 +7,7 @@ A line `: A rule` of rules.txt begins a rule. The lines under it, behind blanks,
 
     defined CRATE/FILE NAME ..   definitions of crates/CRATE/specs/FILE.antt, or fields of records there; the line may come again
     stated PAGE#HEADING          a page of docs/ that states the rule; the line may come again
-    wrong NAME ..                wrong bodies; `exact` or `a law` in their place says why none is needed
+    wrong NAME ..                wrong bodies; `exact` or `law` in their place says why none is needed
     test NAME ..                 tests
     code [CRATE] NAME ..         functions; without CRATE of the crate of the last definitions
 
@@ -205,7 +205,7 @@ def page(code, text):
 def main():
     try:
         sys.stdout.write("\n".join(page(Code(CRATES), LIST.read_text(encoding="utf-8"))))
-    except (Unknown, Unresolved) as fault:
+    except (Unknown, Unresolved, ValueError) as fault:
         print(fault, file=sys.stderr)
         return 1
     return 0
