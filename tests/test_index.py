@@ -1,8 +1,9 @@
-"""The index of rules in docs/architecture.md: each definition, function, wrong body, test and heading that a row names exists.
-And each crate has its row in the table of layers, below the crates that it uses, and each entry that the row names exists.
-And each function in the picture of the way of a file and of a run exists, and the one rule that is followed from end to end
-has what its row says."""
+"""The rows of docs/rules.md: each definition, function, wrong body, test and heading that a row names exists. In
+docs/architecture.md each crate has its row in the table of layers, below the crates that it uses, and each entry that the row
+names exists. Each function in the picture of the way of a file and of a run exists, and the one rule that is followed from end
+to end has what its row says."""
 import functools
+import itertools
 import re
 import unittest
 
@@ -10,6 +11,7 @@ from programs import HOME
 from test_promises import clauses_at, texts_of
 
 PAGE = HOME / "docs" / "architecture.md"
+RULES = HOME / "docs" / "rules.md"
 LAYERS = "| Layer | Crate | Its question | What is proved, by which function or type |"
 HEAD = "| Rule | Definition | Code | Wrong body | Test | Stated in |"
 NAME = re.compile(r"`([^`]+)`")
@@ -18,12 +20,10 @@ LINK = re.compile(r"\]\(([\w.]+)#([\w-]+)\)")
 
 
 def rows_of(text, head=HEAD):
-    """The cells of each row of the table with this head, by default the index."""
-    lines = text[text.index(head) :].split("\n")[2:]
-    for line in lines:
-        if not line.startswith("|"):
-            return
-        yield [cell.strip() for cell in line.strip("|").split(" | ")]
+    """The cells of each row of the tables with this head, by default those of the rules."""
+    for table in text.split(head)[1:]:
+        for line in itertools.takewhile(lambda line: line.startswith("|"), table.split("\n")[2:]):
+            yield [cell.strip() for cell in line.strip("|").split(" | ")]
 
 
 @functools.cache
@@ -57,8 +57,8 @@ class Index(unittest.TestCase):
     needs_programs = False
 
     def test_each_row_names_what_is_there(self):
-        rows = list(rows_of(PAGE.read_text(encoding="utf-8")))
-        self.assertGreater(len(rows), 30)
+        rows = list(rows_of(RULES.read_text(encoding="utf-8")))
+        self.assertGreater(len(rows), 150)
         for rule, definition, code, wrong_body, test, page in rows:
             with self.subTest(rule):
                 crate = self.check_definition(definition)
@@ -100,13 +100,14 @@ class Index(unittest.TestCase):
     def test_the_rule_that_is_followed(self):
         """The section names all that the rule's row names. The files and the other rules that it names are there."""
         section = self.section("One rule from end to end")
-        (row,) = [cells for cells in rows_of(PAGE.read_text(encoding="utf-8")) if cells[0] == "A late row"]
+        rules = RULES.read_text(encoding="utf-8")
+        (row,) = [cells for cells in rows_of(rules) if cells[0] == "A late row"]
         for name in NAME.findall(" ".join(row)):
             self.assertIn(name, section)
         for place in re.findall(r"`((?:crates|tests)/[^` ]*\.\w+)`", section):
             self.assertTrue((HOME / place).is_file(), place)
         for name in re.findall(r'"([A-Z][^".]*)"', section):
-            self.assertIn(f"| {name} |", PAGE.read_text(encoding="utf-8"))
+            self.assertIn(f"| {name} |", rules)
 
     def section(self, heading):
         """The text of a section of the page."""
@@ -123,11 +124,13 @@ class Index(unittest.TestCase):
         return crate
 
     def check_code(self, crate, cell):
-        """The functions are in the definition's crate, or in the crate with which the cell begins."""
-        elsewhere, names = re.fullmatch(r"(?:`(hh_\w+)`: )?(.*)", cell).groups()
-        text = text_of(f"crates/{elsewhere or crate}/src/**", ".rt")
-        for name in NAME.findall(names):
-            self.assertTrue(re.search(rf"\bfn {re.escape(name.split('::')[-1])}\b", text), name)
+        """The functions are in the definition's crate, or in the crate with which their part of the cell begins."""
+        for part in cell.split("; "):
+            elsewhere, names = re.fullmatch(r"(?:`(hh_\w+)`: )?(.*)", part).groups()
+            text = text_of(f"crates/{elsewhere or crate}/src/**", ".rt")
+            self.assertTrue(NAME.findall(names), cell)
+            for name in NAME.findall(names):
+                self.assertTrue(re.search(rf"\bfn {re.escape(name.split('::')[-1])}\b", text), name)
 
     def check_wrong_body(self, cell):
         for name in NAME.findall(cell):
