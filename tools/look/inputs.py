@@ -1,0 +1,121 @@
+"""What a run is settled from: what is registered and in force for a day after the files up to some place."""
+
+from . import clock, rules
+from .accepted import CONTRACTS, METERS, PARTIES, PRICES, READ, REALLOCATIONS, UNITS
+from .figures import KWH, PERCENT, TLM, decimal, per_mwh
+from .office import name_of
+
+OF_DAY = tuple(READ)
+
+
+class Inputs:
+    """The rows in force, which may be taken back file by file."""
+
+    def __init__(self, accepted):
+        self.accepted, self.day = accepted, accepted.day
+        self.place = max(accepted.changes, default=0)
+        periods = range(1, clock.count(self.day) + 1) if accepted.period is None else [accepted.period]
+        self.values = {kind: {period: {} for period in periods} for kind in OF_DAY}
+        for kind in OF_DAY:
+            for (period, key), entry in accepted.last(kind).items():
+                self.values[kind].setdefault(period, {})[key] = entry.value
+        self.parties = {party: entry.value for party, entry in accepted.last(PARTIES).items()}
+        self.units = {unit: entry.value for unit, entry in accepted.last(UNITS).items()}
+
+    def take_back(self, place):
+        """Takes back what the file at a place changed. Returns the periods that this concerns, None for all."""
+        periods = set()
+        for (kind, key), before in self.accepted.changes[place].items():
+            if kind in OF_DAY:
+                period, key = key
+                held = self.values[kind][period]
+                periods.add(period)
+            else:
+                held, periods = self.parties if kind == PARTIES else self.units, None
+            if before is None:
+                held.pop(key)
+            else:
+                held[key] = before.value
+            if periods is None:
+                periods = set(self.values[METERS])
+        self.place = max((other for other in self.accepted.changes if other < place), default=0)
+        return periods
+
+    def accounts(self):
+        """The accounts of the day, in their order."""
+        there = sorted(party for party, (first, last) in self.parties.items() if first <= self.day <= last)
+        return [(party, side) for party in there for side in (0, 1)]
+
+    def units_of_day(self):
+        return {name: unit for name, unit in sorted(self.units.items()) if unit.first <= self.day <= unit.last}
+
+    def given(self, period):
+        """The reallocations of a period, by unit and account."""
+        found = {}
+        for (unit, account), part in self.values[REALLOCATIONS][period].items():
+            found.setdefault(unit, {})[account] = part
+        return found
+
+    def contracts(self, period):
+        """Each reference with its seller, its buyer and its volume, in the order of references."""
+        held = self.values[CONTRACTS][period]
+        return [(reference, *held[reference][:2], held[reference][2]) for reference in sorted(held)]
+
+    def reading(self, period, unit):
+        return self.values[METERS][period].get(unit)
+
+    def price(self, period):
+        return self.values[PRICES][period].get(None)
+
+    def settled(self, periods):
+        """What each of these periods settles to, by its number."""
+        accounts, units = self.accounts(), self.units_of_day()
+        return {
+            period: rules.settle(
+                accounts,
+                units,
+                self.values[METERS][period],
+                self.given(period),
+                self.values[CONTRACTS][period].values(),
+                self.price(period),
+            )
+            for period in periods
+        }
+
+
+def named(kind, key):
+    """What a key is of."""
+    if kind in (PARTIES, UNITS):
+        return f"{'party' if kind == PARTIES else 'unit'} {key}"
+    period, key = key
+    if kind == PRICES:
+        return f"the price of period {period}"
+    if kind == REALLOCATIONS:
+        return f"{key[0]} to {name_of(key[1])} in period {period}"
+    return f"{key} in period {period}"
+
+
+def valued(kind, value):
+    """What a row says, as files write it."""
+    if value is None:
+        return "nothing"
+    if kind == METERS:
+        balancing = f", balancing {decimal(value.balancing, KWH)}" if value.balancing else ""
+        return f"{decimal(value.metered, KWH)} MWh x {decimal(value.tlm, TLM)}{balancing}"
+    if kind == PRICES:
+        return per_mwh(value)
+    if kind == CONTRACTS:
+        seller, buyer, kwh = value
+        pair = f"{name_of(seller)} to {name_of(buyer)}" if seller and buyer else "no seller and buyer"
+        return f"{pair}, {decimal(kwh, KWH)} MWh"
+    if kind == REALLOCATIONS:
+        return f"{decimal(value[0], PERCENT)} % and {decimal(value[1], KWH)} MWh"
+    if kind == PARTIES:
+        return " to ".join(map(date_or_number, value))
+    mark = ", interconnector" if value.is_interconnector else ""
+    return f"{name_of(value.lead)}{mark}, {date_or_number(value.first)} to {date_or_number(value.last)}"
+
+
+def date_or_number(day):
+    """The date of a day, if it is one that files may have."""
+    return clock.date_of(day) if clock.FIRST <= day <= clock.LAST else f"day {day}"

@@ -1,0 +1,37 @@
+"""Whether the tables have what the accepted files say."""
+
+from .accepted import CONTRACTS, METERS, PARTIES, PRICES, REALLOCATIONS, UNITS, cited
+from .inputs import named, valued
+
+
+def held(office, day, period):
+    """What the tables have in force, by kind and key, as `Accepted` has it."""
+    references = office.references()
+    return {
+        PARTIES: {party: tuple(days) for party, days in office.parties().items()},
+        UNITS: office.units(),
+        METERS: office.readings(day, period),
+        PRICES: {(number, None): price for number, price in office.prices(day, period).items()},
+        CONTRACTS: {
+            (number, reference): (*references.get(reference, (None, None)), kwh)
+            for (number, reference), kwh in office.contracts(day, period).items()
+        },
+        REALLOCATIONS: {
+            (number, (unit, account)): part for (number, unit, account), part in office.reallocations(day, period).items()
+        },
+    }
+
+
+def departures(office, accepted):
+    """A line for each row in force that isn't the one that the files give."""
+    lines = list(accepted.miscounts)
+    for kind, rows in held(office, accepted.day, accepted.period).items():
+        wanted = accepted.last(kind)
+        if len(rows) == len(wanted) and all(key in wanted and wanted[key].value == value for key, value in rows.items()):
+            continue
+        for key in sorted(rows.keys() | wanted.keys(), key=str):
+            entry, value = wanted.get(key), rows.get(key)
+            if entry is None or entry.value != value:
+                told = "no accepted file says so" if entry is None else f"{cited(entry)} says {valued(kind, entry.value)}"
+                lines.append(f"{named(kind, key)}: the table {kind} has {valued(kind, value)}, and {told}")
+    return lines
