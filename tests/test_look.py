@@ -37,6 +37,7 @@ SHOWING = [
     ("postings", DAY, "R1"),
     ("postings", DAY, "R1", "--csv"),
     ("postings", DAY, "R1", "--hledger"),
+    ("page", DAY, "R1"),
 ]
 
 
@@ -263,8 +264,10 @@ class Refused(Looking):
         for words, told in (
             (("why", "NOBODY-P", DAY), "there is no account NOBODY-P: no party NOBODY is registered"),
             (("statement", "NOBODY-C", DAY), "there is no account NOBODY-C: no party NOBODY is registered"),
+            (("page", DAY, "SF", "--account", "NOBODY-C"), "there is no account NOBODY-C: no party NOBODY is registered"),
             (("why", "CITYSUP-P", "2024-07-02"), "2024-07-02 has no run"),
             (("postings", "2024-07-02", "SF"), "2024-07-02 has no run"),
+            (("page", DAY, "R2"), "2024-07-01 has no run R2; it has SF, R1"),
             (("compare", DAY, "SF", "DF"), "2024-07-01 has no run DF; it has SF, R1"),
             (("statement", "CITYSUP-P", "2024-07-02", "2024-07-09"), "no date from 2024-07-02 to 2024-07-09 has such a run"),
         ):
@@ -290,6 +293,7 @@ class Refused(Looking):
             ("why", "--db", "no.db", "CITYSUP-P", DAY, "SF", "1", "2"),
             ("statement", "--db", "no.db", "CITYSUP-P", DAY, "2024-06-30"),
             ("postings", "--db", "no.db", DAY, "SF", "--csv", "--hledger"),
+            ("page", "--db", "no.db", DAY),
             ("when",),
             ("when", "25:00"),
             ("when", DAY, "1", "2"),
@@ -302,7 +306,7 @@ class Refused(Looking):
     def test_help(self):
         found, out, err = look("--help")
         self.assertEqual((found, err), (0, ""))
-        for name in "status missing when why statement compare postings snapshot".split():
+        for name in "status missing when why statement compare postings snapshot page".split():
             self.assertIn(f"\n    {name}", out)
             self.assertEqual(look(name, "--help")[0], 0)
 

@@ -370,7 +370,7 @@ class Changed(Looking):
         database, draw = self.kept("market"), random.Random(2)
 
         def shows(day, kind, _):
-            return [("postings", "--db", database, DAY, office.KINDS[kind])]
+            return [("postings", "--db", database, DAY, office.KINDS[kind]), ("page", "--db", database, DAY, office.KINDS[kind])]
 
         self.assertGreater(self.each(database, draw, POSTED, shows), 8)
 

@@ -28,7 +28,8 @@ def cited(entry):
 
 
 def reading_of(row):
-    return row[0], Reading(*map(figures.scaled, row[3:6], (figures.KWH, figures.TLM, figures.KWH)))
+    reading = Reading(figures.scaled(row[3], figures.KWH), figures.scaled(row[4], figures.TLM), figures.scaled(row[5], figures.KWH))
+    return row[0], reading
 
 
 def price_of(row):

@@ -20,6 +20,7 @@ COMMANDS = {
     "compare": "what changed from one run of a date to another, and why",
     "postings": "what a run posted to whom",
     "snapshot": "a copy of the office, also while `settle serve` runs",
+    "page": "a run as a page to read and to print, in HTML",
 }
 
 

@@ -6,9 +6,8 @@ KWH, TLM, PERCENT, PRICE = 3, 7, 5, 5  # digits behind the point, in files and i
 
 def scaled(text, digits):
     """The whole number of a decimal of an accepted file, with so many digits behind the point."""
-    whole, _, fraction = text.removeprefix("-").partition(".")
-    number = int(whole + fraction.ljust(digits, "0"))
-    return -number if text.startswith("-") else number
+    whole, _, fraction = text.partition(".")
+    return int(whole + fraction.ljust(digits, "0"))  # where a minus stays in front, of 0 too
 
 
 def decimal(number, digits):

@@ -1,5 +1,7 @@
 """What a run is settled from: what is registered and in force for a day after the files up to some place."""
 
+import copy
+
 from . import clock, rules
 from .accepted import CONTRACTS, METERS, PARTIES, PRICES, READ, REALLOCATIONS, UNITS
 from .figures import KWH, PERCENT, TLM, decimal, per_mwh
@@ -21,6 +23,13 @@ class Inputs:
                 self.values[kind].setdefault(period, {})[key] = entry.value
         self.parties = {party: entry.value for party, entry in accepted.last(PARTIES).items()}
         self.units = {unit: entry.value for unit, entry in accepted.last(UNITS).items()}
+
+    def copy(self):
+        """The same rows, which may be taken back apart from these."""
+        other = copy.copy(self)
+        other.values = {kind: {period: dict(held) for period, held in periods.items()} for kind, periods in self.values.items()}
+        other.parties, other.units = dict(self.parties), dict(self.units)
+        return other
 
     def take_back(self, place):
         """Takes back what the file at a place changed. Returns the periods that this concerns, None for all."""
@@ -100,8 +109,9 @@ def valued(kind, value):
     if value is None:
         return "nothing"
     if kind == METERS:
-        balancing = f", balancing {decimal(value.balancing, KWH)}" if value.balancing else ""
-        return f"{decimal(value.metered, KWH)} MWh x {decimal(value.tlm, TLM)}{balancing}"
+        metered, tlm, balancing = value
+        told = f"{decimal(metered, KWH)} MWh x {decimal(tlm, TLM)}"
+        return f"{told}, balancing {decimal(balancing, KWH)}" if balancing else told
     if kind == PRICES:
         return per_mwh(value)
     if kind == CONTRACTS:

@@ -2,11 +2,12 @@
 
 import collections
 import contextlib
+import functools
 import sqlite3
 
 from . import clock
 from .copying import copied
-from .rules import Figures, Reading, Unit
+from .rules import Figures, Unit
 from .telling import Fault
 
 VERSION = 1  # of the tables that are read here
@@ -22,6 +23,7 @@ def name_of(account):
     return f"{account[0]}-{SIDES[account[1]]}"
 
 
+@functools.cache
 def account_of(text):
     """The account of a text. One that is off its grammar is a ValueError."""
     party, dash, side = text.rpartition("-")
@@ -122,9 +124,9 @@ class Office:
     # What is in force for a day
 
     def readings(self, day, period=None):
-        """Readings by period and unit."""
+        """The metered volume, the multiplier and the balancing volume by period and unit."""
         rows = self.of_day("meters", "period, unit, metered, tlm, balancing", day, period)
-        return {(number, unit): Reading(*values) for number, unit, *values in rows}
+        return {(number, unit): (metered, tlm, balancing) for number, unit, metered, tlm, balancing in rows}
 
     def prices(self, day, period=None):
         return dict(self.of_day("prices", "period, price", day, period))
@@ -166,8 +168,8 @@ class Office:
         """A run's figures by period and then by account, in the order of accounts."""
         rows = self.of_run("results", "party, side, credited, balancing, contracts, imbalance, charge, share", day, kind, period)
         found = {}
-        for number, party, side, *figures in rows:
-            found.setdefault(number, {})[self.account(party, side)] = Figures(*figures)
+        for row in rows:
+            found.setdefault(row[0], {})[self.account(row[1], row[2])] = Figures._make(row[3:])
         return found
 
     def credits(self, day, kind, period=None):

@@ -29,6 +29,8 @@ class Day:
         self.departures = departures(office, self.accepted)
         self.periods = range(1, clock.count(day) + 1) if period is None else [period]
         self.recounts = {}
+        self.inputs = Inputs(self.accepted)
+        self.settled = self.inputs.settled(self.periods)
 
     def recount(self, kind):
         """A run of the day, counted once."""
@@ -50,8 +52,7 @@ class Recount:
 
     def nearest(self):
         """The inputs from which most figures follow, the latest of them; what they settle to, and the differences by period."""
-        inputs = Inputs(self.of.accepted)
-        settled = inputs.settled(self.of.periods)
+        inputs, settled = self.of.inputs.copy(), self.of.settled
         found = {period: self.compared(period, settled.get(period)) for period in self.all_periods()}
         best = None
         for place in sorted(self.of.accepted.changes, reverse=True):
@@ -62,8 +63,8 @@ class Recount:
             changed = inputs.settled(affected)
             settled = {**settled, **changed}
             found = {**found, **{period: self.compared(period, changed[period]) for period in affected}}
-        best = best or (0, 0, settled, found)
-        return self.inputs_at(best[1]), best[2], best[3]
+        best = best or (0, inputs.place, settled, found)
+        return inputs if inputs.place == best[1] else self.inputs_at(best[1]), best[2], best[3]
 
     @staticmethod
     def better(best, place, settled, found):
@@ -73,7 +74,7 @@ class Recount:
 
     def inputs_at(self, place):
         """What was in force after the file at a place."""
-        inputs = Inputs(self.of.accepted)
+        inputs = self.of.inputs.copy()
         for later in sorted((other for other in self.of.accepted.changes if other > place), reverse=True):
             inputs.take_back(later)
         return inputs

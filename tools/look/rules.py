@@ -71,16 +71,16 @@ def settle(accounts, units, readings, reallocations, contracts, price):
     credited, balanced, sold, weights = ({account: 0 for account in accounts} for _ in range(4))
     credits = {}
     try:
-        for name, unit in units.items():
+        for name, (lead, is_interconnector, _, _) in units.items():
             reading = readings.get(name)
             if reading is None:
                 return None
-            credits[name] = found = credits_of(unit.lead, reading, reallocations.get(name))
+            credits[name] = found = credits_of(lead, reading, reallocations.get(name))
             if reading[2]:
-                balanced[unit.lead] += reading[2] * reading[1]
+                balanced[lead] += reading[2] * reading[1]
             for account, ticks in found.items():
                 credited[account] += ticks
-                if not unit.is_interconnector:
+                if not is_interconnector:
                     weights[account] += abs(ticks)
         for seller, buyer, kwh in contracts:
             sold[seller] += kwh * TLM_UNIT
