@@ -13,6 +13,7 @@ import unittest
 from kept_offices import unpack
 from programs import HOME
 from test_desk import EARLY, OPERATOR, text_of
+from test_documents import BLOCK
 from test_week import Peer, is_late, midnight, periods
 
 from look import commands
@@ -29,6 +30,14 @@ def look(*words):
         except SystemExit as end:
             status = end.code
     return status, out.getvalue(), err.getvalue()
+
+
+def documented():
+    """The words of each command in docs/look.md, and what the next block says that it prints."""
+    blocks = BLOCK.findall((HOME / "docs/look.md").read_text(encoding="utf-8"))
+    for block, printed in zip(blocks, blocks[1:]):
+        if words := re.fullmatch(r"\./look (.*)\n", block):
+            yield words[1].split(), printed
 
 
 class Looking(unittest.TestCase):

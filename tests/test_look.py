@@ -3,6 +3,7 @@ which words it takes, what it refuses, and the commands that count: `status`, `m
 import contextlib
 import os
 import pathlib
+import random
 import re
 import shutil
 import sqlite3
@@ -14,11 +15,11 @@ import unittest
 import unittest.mock
 
 from kept_offices import OFFICES
-from looking import Looking, changing, look
-from programs import HOME
+from looking import Looking, changing, documented, look
+from programs import HOME, IS_LONG
 from test_database import content_of
 
-from look import clock, copying, office
+from look import clock, commands, copying, office
 from look.telling import Fault
 
 DAY = "2024-07-01"
@@ -39,6 +40,13 @@ SHOWING = [
     ("postings", DAY, "R1", "--hledger"),
     ("page", DAY, "R1"),
 ]
+
+# What a row may get, by the type of the column.
+VALUES = {
+    "INT": (0, -1, 2, 99, 47_482, 10**15, 2**63 - 1, -(2**63)),
+    "TEXT": ("", "x", "A" * 100, "\u00e9", '"', "a,b", "<b>&", "2__SHOPS"),
+    "BLOB": (b"", b"\xff\xfe", b'a,2024-07-01,b\n"', b"x\n2024-07-01,1\n", b"x\nU,X-Q,2024-07-01,1,1,1\n"),
+}
 
 
 def asked(words, database):
@@ -259,6 +267,26 @@ class Refused(Looking):
                 self.assertEqual(found, 1, out)
                 self.assertTrue(err.count("\n") == 1 or "doesn't follow" in out or "don't follow" in out, (out, err))
 
+    def test_any_number_and_text(self):
+        """Rows get values that no office writes, as many as tables may hold. What is shown of them is a line or a mark, and no failure
+        of the script."""
+        draw, whole = random.Random(9), self.kept("market")
+        with changing(whole) as made:
+            tables = [(table, made.execute(f"PRAGMA table_info({table})").fetchall()) for (table,) in made.execute("SELECT name FROM sqlite_master WHERE type = 'table'")]
+        for number in range(400 if IS_LONG else 40):
+            database = self.room / f"{number}.db"
+            shutil.copy(whole, database)
+            with changing(database) as made:
+                table, columns = draw.choice(tables)
+                column, kind = draw.choice(columns)[1:3]
+                (rowid,) = draw.choice(made.execute(f"SELECT rowid FROM {table}").fetchall() or [(1,)])
+                with contextlib.suppress(sqlite3.IntegrityError):
+                    made.execute(f"UPDATE {table} SET {column} = ? WHERE rowid = ?", (draw.choice(VALUES[kind]), rowid))
+            words = draw.choice(SHOWING)
+            status, out, err = look(*asked(words, database))
+            self.assertIn(status, (0, 1), (words, table, column))
+            self.assertTrue(out or err.count("\n") == 1, (words, table, column, err))
+
     def test_what_is_not_there(self):
         database = self.kept("market")
         for words, told in (
@@ -294,6 +322,8 @@ class Refused(Looking):
             ("statement", "--db", "no.db", "CITYSUP-P", DAY, "2024-06-30"),
             ("postings", "--db", "no.db", DAY, "SF", "--csv", "--hledger"),
             ("page", "--db", "no.db", DAY),
+            ("check", "--db", "no.db", "rows", "file.csv"),
+            ("preview", "--db", "no.db", "--at", "noon", DAY, "SF"),
             ("when",),
             ("when", "25:00"),
             ("when", DAY, "1", "2"),
@@ -306,15 +336,19 @@ class Refused(Looking):
     def test_help(self):
         found, out, err = look("--help")
         self.assertEqual((found, err), (0, ""))
-        for name in "status missing when why statement compare postings snapshot page".split():
+        for name in "status missing when why statement compare postings check preview snapshot page".split():
             self.assertIn(f"\n    {name}", out)
             self.assertEqual(look(name, "--help")[0], 0)
 
-    def test_a_reader_that_goes_away(self):
-        line = f"{HOME / 'look'} statement --db {self.kept('market')} CITYSUP-C {DAY} --csv | head -n 1"
-        made = subprocess.run(["sh", "-c", line], capture_output=True, text=True)
-        self.assertTrue(made.stdout.startswith("date,kind,account,"))
-        self.assertNotIn("Traceback", made.stderr)
+    def test_an_output_that_takes_nothing(self):
+        """It is full, closed, or its reader has gone away."""
+        line = f"{HOME / 'look'} statement --db {self.kept('market')} CITYSUP-C {DAY}"
+        for end, told in ("> /dev/full", "look: standard output: No space left on device\n"), (">&-", ""), ("| true", None):
+            made = subprocess.run(["sh", "-c", f"{line} {end}"], capture_output=True, text=True)
+            self.assertEqual(made.stdout, "")
+            if told is not None:
+                self.assertEqual((made.returncode, made.stderr), (1, told))
+            self.assertIn(made.stderr, (told, "", "look: standard output: Broken pipe\n"))
 
 
 class Status(Looking):
@@ -529,6 +563,50 @@ class Snapshots(Looking):
         self.refuses("snapshot", "--db", database, out)
         self.assertFalse(out.exists())
         self.assertIn("No such file or directory", self.refuses("snapshot", "--db", self.kept("new"), self.room / "no" / "out.db"))
+
+
+class Documented(Looking):
+    """docs/look.md, over the offices of the guide."""
+
+    ASKING = "check", "preview"
+
+    def setUp(self):
+        super().setUp()
+        for name in "market", "week":
+            for path in self.kept(name).parent.iterdir():
+                shutil.copy(path, self.room / path.name.replace("office", name))
+        here = os.getcwd()
+        self.addCleanup(os.chdir, here)
+        os.chdir(self.room)
+
+    def test_what_the_commands_print(self):
+        """Those that ask the program are in test_look_program.py."""
+        shown = set()
+        for words, printed in documented():
+            if words[0] not in (*self.ASKING, "snapshot", "page"):
+                with self.subTest(" ".join(words)):
+                    _, out, err = look(*words)
+                    self.assertEqual(out + err, printed)
+                    shown.add(words[0])
+        self.assertEqual(shown, {"status", "missing", "when", "why", "statement", "compare", "postings"})
+
+    def test_the_lines_for_a_shell(self):
+        """A snapshot and a page."""
+        lines = re.findall(r"```sh\n(\./look .*\n)```", (HOME / "docs/look.md").read_text(encoding="utf-8"))
+        self.assertEqual(len(lines), 2)
+        (self.room / "backup").mkdir()
+        (self.room / "look").symlink_to(HOME / "look")
+        script = "".join(lines).replace("/backup/", "backup/")
+        made = subprocess.run(["sh", "-e", "-c", script], capture_output=True, text=True)
+        self.assertEqual((made.returncode, made.stderr), (0, ""))
+        self.assertEqual((self.room / "backup/market.db").read_bytes(), (self.room / "market.db").read_bytes())
+        self.assertEqual((self.room / "2024-07-01-R1.html").read_text(encoding="utf-8"), look("page", "--db", "market.db", DAY, "R1")[1])
+
+    def test_each_command_has_a_section(self):
+        page = (HOME / "docs/look.md").read_text(encoding="utf-8")
+        for name in commands.COMMANDS:
+            self.assertIn(f"\n## {name}\n", page)
+            self.assertIn(f"| [`{name}`](#{name}) |", page)
 
 
 class Read(Looking):

@@ -76,6 +76,7 @@ class Accepted:
         # Entries by kind and key, those that were accepted last at the end. A key of a day begins with its period.
         self.entries = {kind: {} for kind in (*READ, *REGISTERED)}
         self.changes = {}  # by a file's place: each key that it changed, with what was in force before
+        self.kept = {}  # what is in force by kind, once it was asked for
         self.miscounts = []  # a line for each file whose counts aren't those of its rows
         self.read()
 
@@ -128,9 +129,11 @@ class Accepted:
             changed[kind, key] = entries[-1] if entries else None
         entries.append(entry)
 
-    def last(self, kind):
+    def in_force(self, kind):
         """What is in force after all files, by key."""
-        return {key: entries[-1] for key, entries in self.entries[kind].items()}
+        if kind not in self.kept:
+            self.kept[kind] = {key: entries[-1].value for key, entries in self.entries[kind].items()}
+        return self.kept[kind]
 
 
 def starts_of(body, kind):

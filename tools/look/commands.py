@@ -19,6 +19,8 @@ COMMANDS = {
     "statement": "an account's figures of a date, or of a range of dates",
     "compare": "what changed from one run of a date to another, and why",
     "postings": "what a run posted to whom",
+    "check": "all rows of a file that would be refused, by asking the program over a copy",
+    "preview": "what a run would answer and post, by asking the program over a copy",
     "snapshot": "a copy of the office, also while `settle serve` runs",
     "page": "a run as a page to read and to print, in HTML",
 }
@@ -63,14 +65,19 @@ def main(words):
     except Fault as fault:
         put(sys.stderr, [f"look: {fault}"])
         return FAULT
-    except BrokenPipeError:
-        os.dup2(os.open(os.devnull, os.O_WRONLY), 1)  # whose reader has gone away
+    except OSError as error:
+        put(sys.stderr, [f"look: {error.filename or 'standard output'}: {error.strerror}"])
         return FAULT
     except KeyboardInterrupt:
         return INTERRUPTED
 
 
 def put(stream, lines):
-    for line in lines:
-        stream.write(f"{line}\n")
-    stream.flush()
+    """Writes lines. What isn't taken isn't tried again at the end."""
+    try:
+        for line in lines:
+            stream.write(f"{line}\n")
+        stream.flush()
+    except OSError:
+        os.dup2(os.open(os.devnull, os.O_WRONLY), stream.fileno())
+        raise

@@ -19,10 +19,10 @@ class Inputs:
         periods = range(1, clock.count(self.day) + 1) if accepted.period is None else [accepted.period]
         self.values = {kind: {period: {} for period in periods} for kind in OF_DAY}
         for kind in OF_DAY:
-            for (period, key), entry in accepted.last(kind).items():
-                self.values[kind].setdefault(period, {})[key] = entry.value
-        self.parties = {party: entry.value for party, entry in accepted.last(PARTIES).items()}
-        self.units = {unit: entry.value for unit, entry in accepted.last(UNITS).items()}
+            held = self.values[kind]
+            for (period, key), value in accepted.in_force(kind).items():
+                held.setdefault(period, {})[key] = value
+        self.parties, self.units = dict(accepted.in_force(PARTIES)), dict(accepted.in_force(UNITS))
 
     def copy(self):
         """The same rows, which may be taken back apart from these."""
@@ -32,23 +32,23 @@ class Inputs:
         return other
 
     def take_back(self, place):
-        """Takes back what the file at a place changed. Returns the periods that this concerns, None for all."""
-        periods = set()
-        for (kind, key), before in self.accepted.changes[place].items():
-            if kind in OF_DAY:
-                period, key = key
-                held = self.values[kind][period]
-                periods.add(period)
-            else:
-                held, periods = self.parties if kind == PARTIES else self.units, None
+        """Takes back what the file at a place changed. Returns the periods that this concerns."""
+        changes = self.accepted.changes[place]
+        for (kind, key), before in changes.items():
+            held, key = self.held(kind, key)
             if before is None:
                 held.pop(key)
             else:
                 held[key] = before.value
-            if periods is None:
-                periods = set(self.values[METERS])
         self.place = max((other for other in self.accepted.changes if other < place), default=0)
-        return periods
+        periods = {key[0] for kind, key in changes if kind in OF_DAY}
+        return periods or set(self.values[METERS])  # a party or a unit concerns all
+
+    def held(self, kind, key):
+        """The rows among which a key is, and what it is called there."""
+        if kind in OF_DAY:
+            return self.values[kind][key[0]], key[1]
+        return (self.parties if kind == PARTIES else self.units), key
 
     def accounts(self):
         """The accounts of the day, in their order."""
@@ -61,20 +61,20 @@ class Inputs:
     def given(self, period):
         """The reallocations of a period, by unit and account."""
         found = {}
-        for (unit, account), part in self.values[REALLOCATIONS][period].items():
+        for (unit, account), part in self.values[REALLOCATIONS].get(period, {}).items():
             found.setdefault(unit, {})[account] = part
         return found
 
     def contracts(self, period):
         """Each reference with its seller, its buyer and its volume, in the order of references."""
-        held = self.values[CONTRACTS][period]
+        held = self.values[CONTRACTS].get(period, {})
         return [(reference, *held[reference][:2], held[reference][2]) for reference in sorted(held)]
 
     def reading(self, period, unit):
-        return self.values[METERS][period].get(unit)
+        return self.values[METERS].get(period, {}).get(unit)
 
     def price(self, period):
-        return self.values[PRICES][period].get(None)
+        return self.values[PRICES].get(period, {}).get(None)
 
     def settled(self, periods):
         """What each of these periods settles to, by its number."""

@@ -54,6 +54,11 @@ def figure(text):
     return text.replace("-", MINUS)
 
 
+def shown_name(one):
+    """An account's name. Those of offices have nothing to be escaped."""
+    return html.escape(name_of(one))
+
+
 def row_of(cells, tag="td"):
     return f"<tr>{''.join(f'<{tag}>{cell}</{tag}>' for cell in cells)}</tr>"
 
@@ -108,12 +113,12 @@ class Page:
             sums = [sum(column) for column in zip(*rows.values())]
             pence = self.posted.postings.get(one)
             if not any(sums) and pence is None and not any(any(row) for row in rows.values()):
-                still.append(name_of(one))
+                still.append(shown_name(one))
                 continue
             energy = (figure(rounded(sums[at])) for at in (0, 2, 3))
             cash = (figure(pounds(amount)) for amount in (sums[4], sums[5]))
             net = f"<b>{figure(pounds(sums[4] + sums[5]))}</b>"
-            name = f'<a href="#{name_of(one)}">{name_of(one)}</a>' if self.alone in (None, one) else name_of(one)
+            name = f'<a href="#{shown_name(one)}">{shown_name(one)}</a>' if self.alone in (None, one) else shown_name(one)
             lines.append(row_of([name, *energy, *cash, net, "" if pence is None else figure(pounds(pence))]))
         lines.append("</table>")
         lines.append("<p>A plus is what the account pays, and a minus what it is paid.</p>")
@@ -133,7 +138,7 @@ class Page:
         return lines
 
     def statement(self, one, rows):
-        net, name = sum(row.charge + row.share for row in rows.values()), name_of(one)
+        net, name = sum(row.charge + row.share for row in rows.values()), shown_name(one)
         told = f"{name}: {'pays' if net >= 0 else 'is paid'} {pounds(abs(net))}"
         is_open = ' checked="checked"' if self.alone else ""
         yield f'<section id="{name}"><input class="fold" type="checkbox" id="of-{name}"{is_open}/><label for="of-{name}">{told}</label>'

@@ -1,5 +1,7 @@
 """The imbalances of a run's accounts as a picture in SVG, on one scale, with the residual below them."""
 
+import html
+
 from . import clock
 from .figures import pounds, rounded
 from .office import name_of
@@ -18,7 +20,7 @@ def drawn(day, by_account, recount):
     if not shown:
         return ["<p>No account was out of balance.</p>"]
     numbers = range(1, clock.count(day) + 1)
-    values = {name_of(one): [imbalance_of(by_account[one], number) for number in numbers] for one in shown}
+    values = {html.escape(name_of(one)): [imbalance_of(by_account[one], number) for number in numbers] for one in shown}
     whole = sum(max(0, *of) - min(0, *of) for of in values.values()) + 1
     parts, top = [], 4
     for name, of in values.items():

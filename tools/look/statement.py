@@ -97,7 +97,7 @@ def of_date(recount, account, rows):
     sums = sums_of(rows.values())
     lines.append(["DAY", "", *map(rounded, sums[:4]), "", *map(pounds, (*sums[4:], sum(sums[4:])))])
     head = f"STATEMENT  {name_of(account)}  {clock.date_of(recount.day)}  {KINDS[recount.kind]}    energy in MWh, prices in £/MWh"
-    return [head, "", *table(HEADS, lines, left=0)]
+    return [head, "", *table(HEADS, lines, words=())]
 
 
 def sums_of(rows):
@@ -114,7 +114,7 @@ def of_range(recounts, account, rows):
     sums = sums_of(by_date)
     lines.append(["ALL", "", *map(rounded, sums[:4]), *map(pounds, (*sums[4:], sum(sums[4:])))])
     head = f"STATEMENT  {name_of(account)}  {lines[0][0]} to {lines[-2][0]}    energy in MWh"
-    return [head, "", *table(DATES, lines, left=2)]
+    return [head, "", *table(DATES, lines, words=(0, 1))]
 
 
 def csv_lines(recount, account, rows):

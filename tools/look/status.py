@@ -8,6 +8,7 @@ from .texts import table
 from .words import date, takes_office
 
 HEADS = ["DATE", "PERIODS", "PRICES", "READINGS", "CONTRACTS", "RUNS", "CHANGED SINCE", "NEXT"]
+WORDS = 0, 5, 6, 7  # the columns that have no numbers
 BY_DAY = {
     "prices": "SELECT day, count(*) FROM prices GROUP BY day",
     "readings": "SELECT day, count(*) FROM meters JOIN units USING (unit) WHERE day BETWEEN day_from AND day_to GROUP BY day",
@@ -40,7 +41,7 @@ def tell(office, asked):
     lines = [in_all(office), ""]
     if not days:
         return Told([*lines, "no date has a price, a reading, a contract, a reallocation or a run"])
-    return Told([*lines, *table(HEADS, [dates.row(day) for day in days])])
+    return Told([*lines, *table(HEADS, [dates.row(day) for day in days], WORDS)])
 
 
 def in_all(office):

@@ -26,12 +26,16 @@ def departures(office, accepted):
     """A line for each row in force that isn't the one that the files give."""
     lines = list(accepted.miscounts)
     for kind, rows in held(office, accepted.day, accepted.period).items():
-        wanted = accepted.last(kind)
-        if len(rows) == len(wanted) and all(key in wanted and wanted[key].value == value for key, value in rows.items()):
-            continue
-        for key in sorted(rows.keys() | wanted.keys(), key=str):
-            entry, value = wanted.get(key), rows.get(key)
-            if entry is None or entry.value != value:
-                told = "no accepted file says so" if entry is None else f"{cited(entry)} says {valued(kind, entry.value)}"
-                lines.append(f"{named(kind, key)}: the table {kind} has {valued(kind, value)}, and {told}")
+        wanted = accepted.in_force(kind)
+        if rows != wanted:
+            keys = sorted((key for key in rows.keys() | wanted.keys() if rows.get(key) != wanted.get(key)), key=str)
+            lines += [f"{named(kind, key)}: the table {kind} has {valued(kind, rows.get(key))}, and {says(accepted, kind, key)}" for key in keys]
     return lines
+
+
+def says(accepted, kind, key):
+    """What the files say of a key."""
+    if key not in accepted.entries[kind]:
+        return "no accepted file says so"
+    entry = accepted.entries[kind][key][-1]
+    return f"{cited(entry)} says {valued(kind, entry.value)}"

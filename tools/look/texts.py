@@ -8,11 +8,12 @@ def item(label, amount, unit=""):
     return f"{label}{amount:>{max(WIDTH - len(label), len(amount) + 2)}}{unit and f' {unit}'}"
 
 
-def table(heads, rows, left=1):
-    """The lines of a table. The first columns are set at the left, and all others at the right."""
+def table(heads, rows, words=(0,)):
+    """The lines of a table. Columns of words are set at the left, and those of numbers at the right."""
     cells = [heads, *rows]
     widths = [max(len(row[at]) for row in cells) for at in range(len(heads))]
-    return ["  ".join(f"{text:{'<' if at < left else '>'}{width}}" for at, (text, width) in enumerate(zip(row, widths))).rstrip() for row in cells]
+    forms = [f"{'<' if at in words else '>'}{width}" for at, width in enumerate(widths)]
+    return ["  ".join(format(text, form) for text, form in zip(row, forms)).rstrip() for row in cells]
 
 
 def listed(words):
