@@ -218,12 +218,13 @@ class Kept(Looking):
         """The shops' two corrections. Others pay for it by their shares, as the guide's balances and the README's say."""
         lines = self.shows("compare", "--db", self.kept("market"), DAY, "SF", "R1")
         rows = [re.split(r"  +", line) for line in lines[3 : lines.index("", 3)]]
-        changes = {row[0]: number(row[-1]) for row in rows}
+        changes = {row[0]: number(row[-2]) for row in rows}
+        self.assertEqual({row[0]: row[-1] for row in rows}, {"CITYSUP-C": "energy", "CITYSUP-P": "share", "NORTHGEN-P": "share"})
         after, before = PRINTED["market"][1], PRINTED["without-positions"][1]
         self.assertEqual(changes, {"CITYSUP-P": after[0] - before[0], "CITYSUP-C": after[1] - before[1], "NORTHGEN-P": after[2] - before[2]})
         self.assertEqual(sum(changes.values()), 0)
         for row in rows:
-            self.assertEqual(number(row[-3]) + number(row[-2]), number(row[-1]))
+            self.assertEqual(number(row[-4]) + number(row[-3]), number(row[-2]))
         self.assertIn("By its share of the residual alone: 2 accounts.", lines)
         # The residual printed by SF, and that by R1.
         self.assertIn(f"fell by {texts.pounds(565_755 - 491_572)}, so the residual rose by as much", "\n".join(lines))
@@ -236,7 +237,7 @@ class Kept(Looking):
         lines = self.shows("compare", "--db", self.kept("dearer-r1"), DAY, "SF", "R1")
         self.assertIn("  the price of period 1: £50.00000 -> £60.00000 (p2.csv row 1)", lines)
         # At 60 pounds GENCO-P pays 45 pence and not 38.
-        self.assertRegex("\n".join(lines), r"GENCO-P .* -£5\.00 +£5\.07 +£0\.07\n")
+        self.assertRegex("\n".join(lines), r"GENCO-P .* -£5\.00 +£5\.07 +£0\.07  price\n")
 
     def test_a_statement(self):
         """GENCO-P is charged -25.00 and has a share of 25.38 in period 1, and nothing happens after it."""
@@ -310,7 +311,7 @@ class AtRandom(Looking):
         lines = self.shows("compare", "--db", made.path, made.date, "SF", "R1")
         rows = [re.split(r"  +", line) for line in lines[3 : lines.index("", 3)]]
         posted = {row["account"]: int(row["pence"]) for row in self.csv("postings", "--db", made.path, made.date, "R1")}
-        self.assertEqual({row[0]: number(row[-1]) for row in rows if number(row[-1])}, posted)
+        self.assertEqual({row[0]: number(row[-2]) for row in rows if number(row[-2])}, posted)
         causes = lines[lines.index("Because of") + 1 : lines.index("", lines.index("Because of"))]
         self.assertGreater(len(causes), 3)
         for cause in causes:

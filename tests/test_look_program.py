@@ -12,10 +12,10 @@ import threading
 import unittest
 import unittest.mock
 
-from killing import Service, connect, replied
+from killing import MoreRuns, Service, connect, replied
 from looking import Looking, documented, look
 from programs import HOME, IS_LONG, SETTLE, need, settle
-from test_both_stores import DATES, Requests, after, told
+from test_both_stores import DATES, after, told
 from test_desk import OPERATOR, text_of
 from test_serving import request
 
@@ -24,8 +24,9 @@ from look import check, clock, office
 DAY, KEY = "2024-07-01", "op-market001"
 MARKET = HOME / "examples" / "market"
 EARLY = 1_719_568_800  # 2024-06-28 10:00 UTC, when the market's contracts come
-REQUESTS = 1_200 if IS_LONG else 300
+REQUESTS = 1_200 if IS_LONG else 200
 SNAPSHOTS = 1_000 if IS_LONG else 25
+MEANWHILE = 0.003  # seconds between two requests
 NOTHING = "Nothing was changed."
 
 
@@ -349,7 +350,7 @@ class AtRandom(Asking):
     def test_what_is_shown(self):
         """After each part of the list: a date is called ready exactly if the program over a copy doesn't answer 53 or 54, and what is
         missing first is what it names. All figures of all runs follow."""
-        requests = Requests(self.room / "files", 21).draw_all(REQUESTS)
+        requests = MoreRuns(self.room / "files", 21).draw_all(REQUESTS)
         database = self.room / "office.db"
         self.assertEqual(settle("init", "--db", str(database), "--operator-key", OPERATOR)[0], 0)
         seen = set()
@@ -403,7 +404,7 @@ class WhileItServes(Asking):
 
         def ask(port):
             for name, rows in sent.items():
-                if ended.is_set():
+                if ended.wait(MEANWHILE):
                     return
                 replies.append(replied(connect(port), request("POST", f"/files/prices/{name}", KEY, text_of("prices", rows))))
 
@@ -424,11 +425,11 @@ class WhileItServes(Asking):
 
     def files(self, count):
         """Rows of files of prices by the files' names. Each has a date of its own."""
-        draw, found = random.Random(8), {}
-        for number in range(count):
-            date = clock.date_of(clock.FIRST + number)
-            found[f"p{number}.csv"] = [f"{date},{period},{draw.randint(1, 99)}" for period in range(1, draw.randint(2, 40))]
-        return found
+        draw = random.Random(8)
+        days = [day for day in range(clock.FIRST, clock.FIRST + count) if day != clock.day_of(DAY)]
+        return {
+            f"p{day}.csv": [f"{clock.date_of(day)},{period},{draw.randint(1, 99)}" for period in range(1, draw.randint(2, 40))] for day in days
+        }
 
     def judge(self, database, sent, answered):
         """Makes a copy, and looks which of the files that are sent it has. So many were answered before."""
@@ -441,7 +442,7 @@ class WhileItServes(Asking):
             out.with_name(out.name + end).unlink(missing_ok=True)
         self.assertEqual(names, list(sent)[: len(names)])
         self.assertGreaterEqual(len(names), answered)
-        self.assertEqual(counts, {clock.FIRST + number: len(sent[name]) for number, name in enumerate(names)})
+        self.assertEqual(counts, {clock.day_of(sent[name][0][:10]): len(sent[name]) for name in names})
         self.assertIn("it is whole", lines[1])
 
 

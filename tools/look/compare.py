@@ -13,6 +13,7 @@ from .texts import table
 from .words import takes_date, takes_kind, takes_office
 
 NOTHING = Figures(0, 0, 0, 0, 0, 0)
+WORDS = 0, 7  # the columns that have no numbers
 
 
 def take_words(command):
@@ -60,8 +61,8 @@ class Compared:
         own = [account for account, change in self.changes.items() if any(change[:5])]
         alone = [account for account in self.changes if account not in set(own)]
         shown = own + alone[:MOST]
-        heads = ["ACCOUNT", "CREDITED, MWh", "CONTRACTS, MWh", "IMBALANCE, MWh", "CHARGES", "SHARES", "POSTING" if self.is_next else "CHANGE"]
-        lines = [head, "", *table(heads, [self.row(account) for account in shown]), ""]
+        heads = ["ACCOUNT", "CREDITED, MWh", "CONTRACTS, MWh", "IMBALANCE, MWh", "CHARGES", "SHARES", "POSTING" if self.is_next else "CHANGE", "BY"]
+        lines = [head, "", *table(heads, [self.row(account) for account in shown], WORDS), ""]
         if alone:
             more = f", of which {MOST} are shown" if len(alone) > MOST else ""
             lines.append(f"By its share of the residual alone: {counted(len(alone), 'account')}{more}.")
@@ -70,7 +71,8 @@ class Compared:
     def row(self, account):
         change = self.changes[account]
         energy = map(mwh, (change.credited, change.contracts, change.imbalance))
-        return [name_of(account), *energy, *map(pounds, (change.charge, change.share, change.charge + change.share))]
+        by = "energy" if any(change[:4]) else "price" if change.charge else "share"
+        return [name_of(account), *energy, *map(pounds, (change.charge, change.share, change.charge + change.share)), by]
 
     def cash(self):
         """How the charges and the residual moved."""
