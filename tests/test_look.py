@@ -78,6 +78,17 @@ class Copies(Looking):
             row = self.shows("status", "--db", self.kept(name))[-1]
             self.assertRegex(row, rf"{DAY} +48 +48/48 +96/96 +1 +{runs} ")
 
+    def test_links(self):
+        """The log is beside the file to which a link leads. Of a file with two names nobody knows where it is."""
+        database = self.kept("killed")
+        link = self.room / "link.db"
+        link.symlink_to(database)
+        self.assertEqual(self.shows("status", "--db", link), self.shows("status", "--db", database))
+        link.unlink()
+        os.link(database, link)
+        for path in link, database:
+            self.assertEqual(self.refuses("status", "--db", path), f"look: {path}: the file has another name too, and its log may be beside that one")
+
     def test_an_office_without_a_log(self):
         database = self.kept("without-positions")
         self.assertEqual([path.name for path in database.parent.iterdir()], ["office.db"])

@@ -34,7 +34,8 @@ def copied(path):
 
 
 def copy_office(path, copy):
-    """Copies the file at a path, and its log where it is there."""
+    """Copies the file at a path, and its log where it is there. The log of a link is beside the file to which the link leads."""
+    path = os.path.realpath(path) if os.path.islink(path) else path
     if os.path.exists(path + JOURNAL):
         raise Fault(f"{path}: there is {path}{JOURNAL}, a change that another program has left half done")
     until = time.monotonic() + PATIENCE
@@ -68,6 +69,8 @@ def seen(path):
         found = os.stat(path)
         if not stat.S_ISREG(found.st_mode):
             raise Fault(f"{path}: it is no file")
+        if found.st_nlink > 1:
+            raise Fault(f"{path}: the file has another name too, and its log may be beside that one")
         header = b""
         if path.endswith(LOG):
             with open(path, "rb") as log:
