@@ -86,8 +86,9 @@ class Copies(Looking):
         self.assertEqual(self.shows("status", "--db", link), self.shows("status", "--db", database))
         link.unlink()
         os.link(database, link)
+        told = "the file has another name too, and its log may be beside that one"
         for path in link, database:
-            self.assertEqual(self.refuses("status", "--db", path), f"look: {path}: the file has another name too, and its log may be beside that one")
+            self.assertEqual(self.refuses("status", "--db", path), f"look: {path}: {told}")
 
     def test_an_office_without_a_log(self):
         database = self.kept("without-positions")
@@ -211,7 +212,8 @@ class Copies(Looking):
         code = "import os, signal, sys; sys.path.insert(0, sys.argv[1]); import runpy; os.environ['TMPDIR'] = sys.argv[3];"
         code += "import look.office as office; office.Office.settings = lambda self: os.kill(os.getpid(), signal.SIGTERM) or 60;"
         code += "sys.argv = ['look', 'status', '--db', sys.argv[2]]; runpy.run_path(sys.path[0] + '/../look', run_name='__main__')"
-        made = subprocess.run([sys.executable, "-B", "-c", code, HOME / "tools", self.kept("new"), self.room], capture_output=True, text=True)
+        call = [sys.executable, "-B", "-c", code, HOME / "tools", self.kept("new"), self.room]
+        made = subprocess.run(call, capture_output=True, text=True)
         self.assertEqual((made.returncode, made.stdout), (130, ""), made.stderr)
         self.assertEqual([path.name for path in self.room.iterdir() if path.name.startswith("look-")], [])
 
@@ -283,7 +285,8 @@ class Refused(Looking):
         of the script."""
         draw, whole = random.Random(9), self.kept("market")
         with changing(whole) as made:
-            tables = [(table, made.execute(f"PRAGMA table_info({table})").fetchall()) for (table,) in made.execute("SELECT name FROM sqlite_master WHERE type = 'table'")]
+            names = [name for (name,) in made.execute("SELECT name FROM sqlite_master WHERE type = 'table'")]
+            tables = [(name, made.execute(f"PRAGMA table_info({name})").fetchall()) for name in names]
         for number in range(400 if IS_LONG else 40):
             database = self.room / f"{number}.db"
             shutil.copy(whole, database)
@@ -311,7 +314,8 @@ class Refused(Looking):
             (("statement", "CITYSUP-P", "2024-07-02", "2024-07-09"), "no date from 2024-07-02 to 2024-07-09 has such a run"),
         ):
             self.assertEqual(self.refuses(*asked(words, database)), f"look: {database}: {told}")
-        self.assertEqual(self.refuses(*asked(("why", "CITYSUP-P", DAY, "SF", "49"), database)), "look: 2024-07-01 has 48 periods, and no period 49")
+        told = self.refuses(*asked(("why", "CITYSUP-P", DAY, "SF", "49"), database))
+        self.assertEqual(told, "look: 2024-07-01 has 48 periods, and no period 49")
 
     def test_wrong_words(self):
         """They are judged before any file is looked at."""
@@ -441,7 +445,8 @@ class Status(Looking):
         """The first period comes first, and then the unit's name."""
         database = self.kept("market")
         with changing(database) as made:
-            made.execute("DELETE FROM meters WHERE (unit, period) IN (VALUES ('T_NORTH-1', 7), ('E_MOOR-1', 9), ('2__SHOPS', 7), ('2__SHOPS', 9))")
+            missing = [("T_NORTH-1", 7), ("E_MOOR-1", 9), ("2__SHOPS", 7), ("2__SHOPS", 9)]
+            made.executemany("DELETE FROM meters WHERE unit = ? AND period = ?", missing)
         self.assertEqual(
             self.shows("missing", "--db", database, DAY)[1:],
             [
@@ -493,7 +498,8 @@ class When(Looking):
                 name = "BST" if local.tm_isdst else "GMT"
                 lines = self.shows("when", date, period)
                 self.assertRegex(lines[0], rf"^{date}.*: period {period} of {count}$")
-                self.assertIn(f"{local.tm_hour:02}:{local.tm_min:02} {name}  {time.strftime('%Y-%m-%dT%H:%M:%SZ', time.gmtime(begin))}  {begin}", lines[1])
+                utc = time.strftime("%Y-%m-%dT%H:%M:%SZ", time.gmtime(begin))
+                self.assertEqual(lines[1], f"from  {local.tm_hour:02}:{local.tm_min:02} {name}  {utc}  {begin}")
                 self.assertTrue(lines[2].endswith(f"  {begin + 1800}"))
                 self.assertIn(f"  {begin - 3600}  60 minutes before it", lines[3])
                 for moment in begin, begin + 1799:
@@ -513,14 +519,15 @@ class When(Looking):
 
     def test_a_time_of_a_clock(self):
         """On a day on which clocks change it is another period, two, or none. On 2024-10-27 period 19 begins at 08:00."""
-        lines = ["08:10 on a day of 48 periods: period 17", "08:10 on a day of 46 periods: period 15", "08:10 on a day of 50 periods: period 19"]
+        lines = [f"08:10 on a day of {count} periods: period {period}" for count, period in ((48, 17), (46, 15), (50, 19))]
         self.assertEqual(self.shows("when", "08:10"), lines)
         self.assertEqual([line.partition(": ")[2] for line in self.shows("when", "1:29")], ["period 3", "never", "period 3 and 5"])
         self.assertEqual([line.partition(": ")[2] for line in self.shows("when", "00:59")], ["period 2"] * 3)
         self.assertEqual(self.shows("when", "2024-10-27", "08:10")[0], "2024-10-27, on which clocks go back: period 19 of 50")
         both = self.shows("when", "2024-10-27", "01:30")
         self.assertEqual([line.rpartition(": ")[2] for line in both if ": " in line], ["period 4 of 50", "period 6 of 50"])
-        self.assertEqual(self.refuses("when", "2024-03-31", "01:30"), "look: clocks never show 01:30 on 2024-03-31: they go forward at 01:00")
+        told = self.refuses("when", "2024-03-31", "01:30")
+        self.assertEqual(told, "look: clocks never show 01:30 on 2024-03-31: they go forward at 01:00")
 
     def test_the_lead_time_of_an_office(self):
         self.assertIn("45 minutes before it", self.shows("when", "--db", self.kept("new"), DAY, 1)[-1])

@@ -40,6 +40,23 @@ NUMBERS = {
 }
 # Those of what a run posted.
 POSTED = {"postings": ["pence"], "runs": ["periods", "accounts", "residual", "postings"]}
+# What is told of single changes of the example market's office after R1, in period 23.
+TOLD = {
+    "meters SET metered = 1 WHERE unit = '2__SHOPS' AND period = 23": "2__SHOPS in period 23: the table meters has 0.001 MWh x 1.0108000, "
+    "and meters-2.csv row 1 says -59.316 MWh x 1.0108000",
+    "prices SET price = -250000 WHERE period = 23": "the price of period 23: the table prices has -£2.50000, "
+    "and prices.csv row 23 says £54.66260",
+    "contracts SET kwh = 1 WHERE reference = 'SEA-CITY' AND period = 23": "SEA-CITY in period 23: "
+    "the table contracts has SEALINK-P to CITYSUP-C, 0.001 MWh, and contracts.csv row ",
+    "reallocations SET percent = 1 WHERE unit = 'E_MOOR-1' AND period = 23": "E_MOOR-1 to CITYSUP-P in period 23: "
+    "the table reallocations has 0.00001 % and 0.000 MWh, and reallocations.csv row ",
+    "results SET charge = 5 WHERE kind = 1 AND party = 'TRADECO' AND side = 0 AND period = 23": "TRADECO-P, period 23: "
+    "the run has the charge £0.05, and £0.00 follows",
+    "credits SET credited = 5 WHERE kind = 1 AND unit = '2__SHOPS' AND period = 23": "2__SHOPS to CITYSUP-C, period 23: "
+    "the run has the credit 0.0000000005, and -59.9566128000 follows",
+    "parties SET day_to = 20000 WHERE party = 'TRADECO'": "party TRADECO: the table parties has 2024-01-01 to 2024-10-04, "
+    "and parties.csv row 4 says 2024-01-01 to 2099-12-31",
+}
 COLUMNS = "credited balancing contracts imbalance".split()
 
 
@@ -85,7 +102,8 @@ class Rules(unittest.TestCase):
         for text, digits, value in (("-0", 3, 0), ("007", 3, 7000), ("-.5".replace(".", "0."), 3, -500), ("1.5", 7, 15_000_000)):
             self.assertEqual(texts.scaled(text, digits), value)
         self.assertEqual([texts.pounds(pence) for pence in (0, -5, 123456, -100)], ["£0.00", "-£0.05", "£1,234.56", "-£1.00"])
-        self.assertEqual([texts.rounded(ticks) for ticks in (10**7, -10**7, 5 * 10**6, -5 * 10**6, 4_999_999)], ["0.001", "-0.001", "0.001", "-0.001", "0.000"])
+        for ticks, text in ((10**7, "0.001"), (-(10**7), "-0.001"), (5 * 10**6, "0.001"), (-5 * 10**6, "-0.001"), (4_999_999, "0.000")):
+            self.assertEqual(texts.rounded(ticks), text)
         self.assertEqual(texts.per_mwh(-381_579), "-£3.81579")
         self.assertEqual(texts.spans([1, 2, 3, 5, 7, 8]), "1 to 3, 5, 7 to 8")
 
@@ -175,16 +193,17 @@ class Kept(Looking):
 
     def test_what_the_guide_tells(self):
         """The balances of the market and of the week, from the postings of all runs; and what R1 of the week posted."""
-        for name, runs in ("market", [(DAY, "SF"), (DAY, "R1")]), ("week", [(line.split()[1], line.split()[2]) for line in PRINTED["week"][0]]):
+        for name in "market", "week":
             sums = {}
-            for date, kind in runs:
+            for date, kind in (line.split()[1:3] for line in PRINTED[name][0]):
                 for row in self.csv("postings", "--db", self.kept(name), date, kind):
                     self.assertEqual((row["date"], row["kind"]), (date, kind))
                     sums[row["account"]] = sums.get(row["account"], 0) + int(row["pence"])
             accounts = [f"{party}-{side}" for party in ("CITYSUP", "NORTHGEN", "SEALINK", "TRADECO") for side in "PC"]
             self.assertEqual([sums.get(account, 0) for account in accounts], PRINTED[name][1])
         rows = self.csv("postings", "--db", self.kept("week"), "2024-10-24", "R1")
-        self.assertEqual({row["account"]: int(row["pence"]) for row in rows}, {"CITYSUP-C": 2_270_973, "CITYSUP-P": -157_202, "NORTHGEN-P": -2_113_771})
+        posted = {row["account"]: int(row["pence"]) for row in rows}
+        self.assertEqual(posted, {"CITYSUP-C": 2_270_973, "CITYSUP-P": -157_202, "NORTHGEN-P": -2_113_771})
 
     def csv(self, *words):
         """The rows of a table in CSV. That all follows is told on standard error."""
@@ -204,7 +223,8 @@ class Kept(Looking):
                 "All figures follow from the rows that SF used.",
             ],
         )
-        self.assertEqual(self.shows("why", "--db", self.kept("market"), "CITYSUP-C", DAY, "SF", "22")[-1], "All figures follow from the rows of the accepted files.")
+        lines = self.shows("why", "--db", self.kept("market"), "CITYSUP-C", DAY, "SF", "22")
+        self.assertEqual(lines[-1], "All figures follow from the rows of the accepted files.")
         lines = self.shows("why", "--db", self.kept("dearer-r1"), "GENCO-P", DAY, "SF")
         self.assertEqual(lines[-2], "  the price of period 1: f5.csv row 1, £50.00000; then p2.csv row 1, £60.00000")
 
@@ -220,8 +240,8 @@ class Kept(Looking):
         rows = [re.split(r"  +", line) for line in lines[3 : lines.index("", 3)]]
         changes = {row[0]: number(row[-2]) for row in rows}
         self.assertEqual({row[0]: row[-1] for row in rows}, {"CITYSUP-C": "energy", "CITYSUP-P": "share", "NORTHGEN-P": "share"})
-        after, before = PRINTED["market"][1], PRINTED["without-positions"][1]
-        self.assertEqual(changes, {"CITYSUP-P": after[0] - before[0], "CITYSUP-C": after[1] - before[1], "NORTHGEN-P": after[2] - before[2]})
+        moved = [after - before for after, before in zip(PRINTED["market"][1], PRINTED["without-positions"][1])]
+        self.assertEqual(changes, dict(zip(["CITYSUP-P", "CITYSUP-C", "NORTHGEN-P"], moved)))
         self.assertEqual(sum(changes.values()), 0)
         for row in rows:
             self.assertEqual(number(row[-4]) + number(row[-3]), number(row[-2]))
@@ -378,20 +398,12 @@ class Changed(Looking):
     def test_what_is_told(self):
         """A reading, a price, a contract and a reallocation that were changed are told with the row that gives them, and a figure with
         the one that follows."""
-        for table, change, told in (
-            ("meters", "metered = 1 WHERE unit = '2__SHOPS' AND period = 23", "2__SHOPS in period 23: the table meters has 0.001 MWh x 1.0108000, and meters-2.csv row 1 says -59.316 MWh x 1.0108000"),
-            ("prices", "price = -250000 WHERE period = 23", "the price of period 23: the table prices has -£2.50000, and prices.csv row 23 says £54.66260"),
-            ("contracts", "kwh = 1 WHERE reference = 'SEA-CITY' AND period = 23", "SEA-CITY in period 23: the table contracts has SEALINK-P to CITYSUP-C, 0.001 MWh, and contracts.csv row "),
-            ("reallocations", "percent = 1 WHERE unit = 'E_MOOR-1' AND period = 23", "E_MOOR-1 to CITYSUP-P in period 23: the table reallocations has 0.00001 % and 0.000 MWh, and reallocations.csv row "),
-            ("results", "charge = 5 WHERE kind = 1 AND party = 'TRADECO' AND side = 0 AND period = 23", "TRADECO-P, period 23: the run has the charge £0.05, and £0.00 follows"),
-            ("credits", "credited = 5 WHERE kind = 1 AND unit = '2__SHOPS' AND period = 23", "2__SHOPS to CITYSUP-C, period 23: the run has the credit 0.0000000005, and -59.9566128000 follows"),
-            ("parties", "day_to = 20000 WHERE party = 'TRADECO'", "party TRADECO: the table parties has 2024-01-01 to 2024-10-04, and parties.csv row 4 says 2024-01-01 to 2099-12-31"),
-        ):
-            with self.subTest(table):
+        for change, told in TOLD.items():
+            with self.subTest(change):
                 shutil.rmtree(self.room / "market", ignore_errors=True)
                 database = self.kept("market")
                 with changing(database) as made:
-                    self.assertEqual(made.execute(f"UPDATE {table} SET {change}").rowcount, 1)
+                    self.assertEqual(made.execute(f"UPDATE {change}").rowcount, 1)
                 lines = self.shows("why", "--db", database, "CITYSUP-C", DAY, "R1", "23", status=1)
                 marked = [line for line in lines if line.startswith("! ")]
                 self.assertEqual(len(marked), 1, lines)

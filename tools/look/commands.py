@@ -8,7 +8,8 @@ import sys
 from .office import opened
 from .telling import FAULT, INTERRUPTED, WRONG_WORDS, Fault, WrongWords
 
-ABOUT = "Looks into an office's file, and never changes it. It copies the file and its log, and reads the copy. docs/look.md shows each command."
+ABOUT = "Looks into an office's file, and never changes it. It copies the file and its log, and reads the copy."
+PAGE = "docs/look.md shows each command with what it prints."
 STATUSES = "Exit status: 0 done, 1 a fault of the file or of what it shows, 2 wrong words."
 # Each is in a module of its name.
 COMMANDS = {
@@ -32,7 +33,7 @@ def module_of(command):
 
 def asked_by(words):
     """What the words ask. Only the module of the command that they begin with is read."""
-    parser = argparse.ArgumentParser("look", description=ABOUT, epilog=STATUSES, allow_abbrev=False)
+    parser = argparse.ArgumentParser("look", description=f"{ABOUT} {PAGE}", epilog=STATUSES, allow_abbrev=False)
     commands = parser.add_subparsers(dest="command", metavar="COMMAND", required=True)
     for name, told in COMMANDS.items():
         command = commands.add_parser(name, help=told, description=told, epilog=STATUSES, allow_abbrev=False)

@@ -13,6 +13,7 @@ from .texts import table
 from .words import takes_date, takes_kind, takes_office
 
 NOTHING = Figures(0, 0, 0, 0, 0, 0)
+HEADS = ["ACCOUNT", "CREDITED, MWh", "CONTRACTS, MWh", "IMBALANCE, MWh", "CHARGES", "SHARES"]
 WORDS = 0, 7  # the columns that have no numbers
 
 
@@ -61,7 +62,7 @@ class Compared:
         own = [account for account, change in self.changes.items() if any(change[:5])]
         alone = [account for account in self.changes if account not in set(own)]
         shown = own + alone[:MOST]
-        heads = ["ACCOUNT", "CREDITED, MWh", "CONTRACTS, MWh", "IMBALANCE, MWh", "CHARGES", "SHARES", "POSTING" if self.is_next else "CHANGE", "BY"]
+        heads = [*HEADS, "POSTING" if self.is_next else "CHANGE", "BY"]
         lines = [head, "", *table(heads, [self.row(account) for account in shown], WORDS), ""]
         if alone:
             more = f", of which {MOST} are shown" if len(alone) > MOST else ""
@@ -80,7 +81,8 @@ class Compared:
         if not charges:
             return []
         words = ("rose", "fell") if charges > 0 else ("fell", "rose")
-        return [f"All charges together {words[0]} by {pounds(abs(charges))}, so the residual {words[1]} by as much, which all share by weight."]
+        told = f"All charges together {words[0]} by {pounds(abs(charges))}"
+        return [f"{told}, so the residual {words[1]} by as much, which all share by weight."]
 
     def causes(self):
         """The rows that came between the two runs and say something else of the day."""

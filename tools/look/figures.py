@@ -1,6 +1,5 @@
 """Whole numbers of small units, as docs/market.md has them, and the texts that stand for them."""
 
-MWH = 10**10  # ticks
 KWH, TLM, PERCENT, PRICE = 3, 7, 5, 5  # digits behind the point, in files and in texts
 
 

@@ -24,7 +24,10 @@ ul{{list-style:none;padding:0}} .no{{color:#b00020}} .yes b{{color:#00632e}} a{{
 .fold{{position:absolute;opacity:0}} .fold+label{{cursor:pointer;display:block;padding:.2em 0}}
 .fold+label::before{{content:"▸ "}} .fold:checked+label::before{{content:"▾ "}}
 .fold:focus+label{{outline:1px dotted}} .fold~.of{{display:none}} .fold:checked~.of{{display:table}}
-@media print{{body{{max-width:none;font-size:10px}} .fold~.of{{display:table}} .fold+label::before{{content:""}} section{{break-inside:avoid}}}}
+@media print{{
+body{{max-width:none;font-size:10px}} section{{break-inside:avoid}}
+.fold~.of{{display:table}} .fold+label::before{{content:""}}
+}}
 """
 POLICY = "default-src 'none'; style-src 'unsafe-inline'"
 HEADS = ["Account", "Credited, MWh", "Contracts, MWh", "Imbalance, MWh", "Charges", "Shares", "Pays", "Posted by this run"]
@@ -165,7 +168,10 @@ def laws_of(posted):
             "Each imbalance is the credited energy less the balancing volume and the contracts.",
             all(row.imbalance == row.credited - row.balancing - row.contracts for rows in periods for row in rows.values()),
         ),
-        ("Charges and shares sum to zero in each period.", all(sum(row.charge + row.share for row in rows.values()) == 0 for rows in periods)),
+        (
+            "Charges and shares sum to zero in each period.",
+            all(sum(row.charge + row.share for row in rows.values()) == 0 for rows in periods),
+        ),
         ("Each posting is the new net less the old, and they sum to zero.", not posted.departures() and sum(posted.postings.values()) == 0),
     ]
 

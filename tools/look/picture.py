@@ -46,14 +46,14 @@ def plot(name, values, top, scale, fills, write):
         if value:
             y, high = (zero - value * scale, value * scale) if value > 0 else (zero, -value * scale)
             told = f"{name}, period {at + 1}: {signed(write(value))}{'' if write is pounds else ' MWh'}"
-            parts.append(
-                f'<rect x="{LEFT + at * STEP}" y="{y:.1f}" width="{STEP - 1}" height="{high:.1f}" fill="{fills[value < 0]}"><title>{told}</title></rect>'
-            )
+            place = f'x="{LEFT + at * STEP}" y="{y:.1f}" width="{STEP - 1}" height="{high:.1f}"'
+            parts.append(f'<rect {place} fill="{fills[value < 0]}"><title>{told}</title></rect>')
     right = LEFT + len(values) * STEP
     parts.append(f'<path d="M{LEFT} {zero:.1f}H{right}" stroke="{FAINT}"/>')
     for pick, fill, y in (max, fills[0], zero - 2), (min, fills[1], zero + 11):
         if total := sum(pick(0, value) for value in values):
-            parts.append(f'<text x="{right + RIGHT - 4}" y="{y:.1f}" text-anchor="end" font-size="11" fill="{fill}">{signed(write(total))}</text>')
+            place = f'x="{right + RIGHT - 4}" y="{y:.1f}" text-anchor="end"'
+            parts.append(f'<text {place} font-size="11" fill="{fill}">{signed(write(total))}</text>')
     return parts, zero - min(0, *values) * scale + GAP / 2
 
 

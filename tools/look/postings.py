@@ -53,11 +53,13 @@ class Posted:
         head = f"Postings of {name} of {date}{over}"
         if not self.postings:
             return [head, "", "none"]
-        rows = [
-            [name_of(account), *map(pounds, (self.old.get(account, 0), self.new.get(account, 0), pence))] for account, pence in self.postings.items()
-        ]
+        rows = [[name_of(account), *map(pounds, (*self.nets(account), pence))] for account, pence in self.postings.items()]
         heads = ["ACCOUNT", f"NET BY {KINDS[self.before.kind]}" if self.before else "BEFORE", f"NET BY {name}", "POSTED"]
         return [head, "", *table(heads, [*rows, ["ALL", "", "", pounds(sum(self.postings.values()))]])]
+
+    def nets(self, account):
+        """What an account pays by the run before, and by this one."""
+        return self.old.get(account, 0), self.new.get(account, 0)
 
     def csv(self):
         date, name = clock.date_of(self.day), KINDS[self.kind]
@@ -83,10 +85,11 @@ class Posted:
         """A line for each posting that isn't the change of the net, and for a row of the run that isn't what the run has."""
         lines = []
         for account in sorted(self.old.keys() | self.new.keys() | self.postings.keys()):
-            wanted = self.new.get(account, 0) - self.old.get(account, 0)
-            if self.postings.get(account, 0) != wanted:
-                lines.append(f"{name_of(account)}: {pounds(self.postings.get(account, 0))} is posted, and its net has changed by {pounds(wanted)}")
-        lines += [f"{name_of(account)}: £0.00 is posted, and no such posting is made" for account, pence in self.postings.items() if not pence]
+            (old, new), posted = self.nets(account), self.postings.get(account, 0)
+            if posted != new - old:
+                lines.append(f"{name_of(account)}: {pounds(posted)} is posted, and its net has changed by {pounds(new - old)}")
+        zeros = [account for account, pence in self.postings.items() if not pence]
+        lines += [f"{name_of(account)}: £0.00 is posted, and no such posting is made" for account in zeros]
         return [*lines, *self.row_departures()]
 
     def row_departures(self):

@@ -20,7 +20,8 @@ def take_words(command):
     takes_office(command)
     takes_account(command)
     takes_date(command)
-    command.add_argument("rest", nargs="*", default=[], type=kind_or(date), metavar="TO KIND", help="one date and its latest run, if not given")
+    told = "one date and its latest run, if not given"
+    command.add_argument("rest", nargs="*", default=[], type=kind_or(date), metavar="TO KIND", help=told)
     command.add_argument("--csv", action="store_true", help="all digits, and what each share is computed from")
 
 

@@ -29,13 +29,14 @@ def departures(office, accepted):
         wanted = accepted.in_force(kind)
         if rows != wanted:
             keys = sorted((key for key in rows.keys() | wanted.keys() if rows.get(key) != wanted.get(key)), key=str)
-            lines += [f"{named(kind, key)}: the table {kind} has {valued(kind, rows.get(key))}, and {says(accepted, kind, key)}" for key in keys]
+            lines += [departure(accepted, kind, key, rows.get(key)) for key in keys]
     return lines
 
 
-def says(accepted, kind, key):
-    """What the files say of a key."""
-    if key not in accepted.entries[kind]:
-        return "no accepted file says so"
-    entry = accepted.entries[kind][key][-1]
-    return f"{cited(entry)} says {valued(kind, entry.value)}"
+def departure(accepted, kind, key, value):
+    """What a table has under a key, and what the files say."""
+    told = "no accepted file says so"
+    if key in accepted.entries[kind]:
+        entry = accepted.entries[kind][key][-1]
+        told = f"{cited(entry)} says {valued(kind, entry.value)}"
+    return f"{named(kind, key)}: the table {kind} has {valued(kind, value)}, and {told}"

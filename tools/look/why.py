@@ -17,7 +17,8 @@ def take_words(command):
     takes_office(command)
     takes_account(command)
     takes_date(command)
-    command.add_argument("rest", nargs="*", default=[], type=kind_or(period), metavar="KIND PERIOD", help="the latest run and the whole day, if not given")
+    told = "the latest run and the whole day, if not given"
+    command.add_argument("rest", nargs="*", default=[], type=kind_or(period), metavar="KIND PERIOD", help=told)
 
 
 def judge(asked):
@@ -122,7 +123,8 @@ class OfPeriod:
         residual, weights = self.recount.residual(self.period), self.recount.weights(self.period)
         lines = [item(f"Share of the residual, which is {pounds(residual)}", pounds(self.row.share))]
         whole = sum(weights.values())
-        by = f"weight {mwh(weights[self.account])} of {mwh(whole)} MWh" if whole else f"no account has a weight, so each of {len(weights)} counts alike"
+        alike = f"no account has a weight, so each of {len(weights)} counts alike"
+        by = f"weight {mwh(weights[self.account])} of {mwh(whole)} MWh" if whole else alike
         if not residual:
             return [*lines, f"  {by}"]
         parts, left = parts_of(residual, list(weights.values()))
@@ -203,4 +205,5 @@ class OfDay:
         first = [period for period in sorted(paid, key=lambda period: (-abs(paid[period]), period))[:LARGEST] if paid[period]]
         if not first:
             return []
-        return [f"The largest: {', '.join(f'period {period} {pounds(paid[period])}' for period in first)}. `look why` with a period shows it."]
+        named = ", ".join(f"period {period} {pounds(paid[period])}" for period in first)
+        return [f"The largest: {named}. `look why` with a period shows it."]
