@@ -502,8 +502,7 @@ class When(Looking):
                 self.assertEqual(lines[1], f"from  {local.tm_hour:02}:{local.tm_min:02} {name}  {utc}  {begin}")
                 self.assertTrue(lines[2].endswith(f"  {begin + 1800}"))
                 self.assertIn(f"  {begin - 3600}  60 minutes before it", lines[3])
-                for moment in begin, begin + 1799:
-                    self.assertEqual(self.shows("when", moment)[1:], lines)
+                self.assertEqual(self.shows("when", begin + (1799 if period % 2 else 0))[1:], lines)
 
     def test_a_date(self):
         """The midnights of docs/market.md."""

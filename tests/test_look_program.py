@@ -318,6 +318,7 @@ class Preview(Asking):
             answer = (made[1] or made[2]).decode().splitlines()[0]
             self.assertEqual((status, err, out.splitlines()[1]), (1 if told else 0, "", answer))
             self.assertEqual(out.splitlines()[-1], NOTHING)
+            self.assertEqual("`look missing` names all" in out, told == "refused 53 MissingPrice period 1")
             if told:
                 self.assertEqual(answer, told)
 

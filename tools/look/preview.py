@@ -32,9 +32,15 @@ def tell(_, asked):
         answer, refusal = run(copy, key, moment, asked)
         head = f"{KINDS[asked.kind]} of {clock.date_of(asked.date)}, ordered at {shown(moment)}"
         if not answer:
-            return Told([f"{head}, would be refused:", *refusal.splitlines(), "", "Nothing was changed."], FAULT)
+            return Told([f"{head}, would be refused:", *refused(refusal), "Nothing was changed."], FAULT)
         with opened_copy(copy, asked.db) as office:
             return made(office, asked, [f"{head}, would answer:", answer.rstrip("\n"), ""], was_made)
+
+
+def refused(refusal):
+    """The lines of a refusal, and where to look if something is missing."""
+    is_missing = refusal.startswith(("refused 53 ", "refused 54 "))
+    return [*refusal.splitlines(), *["`look missing` names all that the date lacks."] * is_missing]
 
 
 def shown(moment):
