@@ -200,7 +200,8 @@ class Check(Asking):
         self.assertIn("a file of prices named prices.csv was accepted with other bytes", lines[1])
         self.assertEqual(self.load(database, "prices", path), "refused 20 FileChanged")
         found, lines = self.faults(database, "prices", MARKET / "prices.csv")
-        self.assertEqual((found, lines[1]), ([], "would be accepted: applied=48 late=0"))
+        self.assertEqual(found, [])
+        self.assertEqual(lines[1:3], ["would be accepted: applied=48 late=0", "It was accepted before. Sent again, it changes nothing."])
 
     def test_other_forms_of_lines(self):
         """A mark of the order of bytes, other line ends, empty lines and quotes. Rows keep their numbers and lines."""

@@ -51,12 +51,14 @@ def tell(_, asked):
         with opened_copy(copy, asked.db) as office:
             key = key_for(office, asked.key_file)
             taken = {held for (held,) in office.rows("SELECT name FROM files")}
+            was_accepted = [(data,)] == office.rows("SELECT body FROM files WHERE kind = ? AND name = ?", asked.rows, name)
         trials, is_whole = faults(copy, key, moment, asked.rows, name, data, taken)
         answers = explained(other, key, moment, asked.rows, trials)
     head = f"{asked.file}, {asked.rows} that come at {shown(moment)}:"
     if len(trials) == 1:
-        (answer, why) = answers[0]
-        return Told([head, f"would be accepted: {answer}", *([f"  {why}"] if why else []), "Nothing was changed."])
+        ((answer, why),) = answers
+        again = ["It was accepted before. Sent again, it changes nothing."] * was_accepted
+        return Told([head, f"would be accepted: {answer}", *([f"  {why}"] if why else []), *again, "Nothing was changed."])
     return Told([head, *lines_of(trials[:-1], answers), *ending(data, trials, answers, is_whole)], FAULT)
 
 
