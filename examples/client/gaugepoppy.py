@@ -13,6 +13,7 @@ accepted counts once, and its first reply comes again. Any other answer stands, 
 either, `NoAnswer` is raised: the request may have been handled, and may be sent again later."""
 
 import decimal
+import functools
 import http.client
 import json
 import re
@@ -47,11 +48,12 @@ class NoOffice(Exception):
 
 
 class Office:
-    """An office at an address, asked with a key. Further tries begin after these pauses."""
+    """An office at an address, asked with a key. Further tries begin after these pauses. With an address of https, `tls` is the context
+    of `ssl` that says which certificates are trusted: the system's, if none is given."""
 
-    def __init__(self, address, key, patience=PATIENCE, pauses=PAUSES):
+    def __init__(self, address, key, patience=PATIENCE, pauses=PAUSES, tls=None):
         found = urllib.parse.urlsplit(address)
-        kinds = {"http": http.client.HTTPConnection, "https": http.client.HTTPSConnection}
+        kinds = {"http": http.client.HTTPConnection, "https": functools.partial(http.client.HTTPSConnection, context=tls)}
         if found.scheme not in kinds or not found.hostname or found.path.strip("/") or found.query or found.username is not None:
             raise ValueError(f"{address} is no address as http://127.0.0.1:8080")
         if not re.fullmatch("[A-Za-z0-9-]*", key):
