@@ -4,6 +4,7 @@ which the program serves."""
 import contextlib
 import csv
 import io
+import itertools
 import json
 import pathlib
 import re
@@ -35,11 +36,17 @@ def answer(body, status=200):
     return head.encode() + body
 
 
-def whole_request(client):
-    """The bytes of a request that comes whole."""
+def head_of(client):
+    """The bytes of a request up to the end of its head, and perhaps more."""
     got = b""
     while b"\r\n\r\n" not in got:
         got += client.recv(65_536)
+    return got
+
+
+def whole_request(client):
+    """The bytes of a request that comes whole."""
+    got = head_of(client)
     length = re.search(rb"(?i)content-length: ([0-9]+)", got)
     while len(got.partition(b"\r\n\r\n")[2]) < (int(length[1]) if length else 0):
         got += client.recv(65_536)
@@ -49,8 +56,8 @@ def whole_request(client):
 class StandIn:
     """Answers one connection after the other with what `reply` gives for the request and its number, and keeps the requests."""
 
-    def __init__(self, test, reply):
-        self.reply, self.asked = reply, []
+    def __init__(self, test, reply, read=whole_request):
+        self.reply, self.read, self.asked = reply, read, []
         self.listener = socket.create_server(("127.0.0.1", 0))
         self.address = f"http://127.0.0.1:{self.listener.getsockname()[1]}"
         self.thread = threading.Thread(target=self.serve, daemon=True)
@@ -64,7 +71,7 @@ class StandIn:
             except OSError:
                 return
             with client, contextlib.suppress(OSError):
-                self.asked.append(whole_request(client))
+                self.asked.append(self.read(client))
                 client.sendall(self.reply(self.asked[-1], len(self.asked) - 1))
 
     def stop(self):
@@ -137,6 +144,14 @@ class Answers(unittest.TestCase):
                     self.office(lambda *_: reply).runs(DATE)
                 self.assertEqual(len(self.stand_in.asked), 1)
 
+    def test_an_answer_before_the_whole_body(self):
+        """It is read, though the connection is reset while the body is sent."""
+        refused = answer(b'{"name":"BodyTooLarge","refused":66}', 413)
+        stand_in = StandIn(self, lambda *_: refused, head_of)
+        with self.assertRaises(gaugepoppy.Refused) as raised:
+            gaugepoppy.Office(stand_in.address, OPERATOR, pauses=()).load("meters", "large.csv", bytes(32_000_000))
+        self.assertEqual((raised.exception.number, len(stand_in.asked)), (66, 1))
+
     def test_an_office_that_isnt_there(self):
         with socket.create_server(("127.0.0.1", 0)) as free:
             port = free.getsockname()[1]
@@ -168,12 +183,16 @@ FIGURES = {
 NAMES = "credited", "balancing", "contracts", "imbalance", "charge_pence", "share_pence"
 
 
-def reply_of(account, figures):
-    """A reply as the office gives it. The figures are those of period 1, and all others are 0."""
-    rows = [dict(zip(NAMES, figures if period == 1 else [0] * 6), period=period) for period in range(1, 49)]
+def reply_of(account, changed=(), count=48):
+    """A reply as the office gives it. The figures of period 1 are those of the page, and all others are 0. What is changed is added to
+    the figure of a period and name. The day net stays."""
+    figures = {1: FIGURES[account]}
+    rows = [dict(zip(NAMES, figures.get(period, [0] * 6)), period=period) for period in range(1, count + 1)]
+    for (period, name), by in dict(changed).items():
+        rows[period - 1][name] += by
     for row in rows:
         row.update({name: energy(row[name]) for name in NAMES[:4]})
-    return {"account": account, "date": DATE, "kind": "SF", "net_pence": figures[4] + figures[5], "periods": rows}
+    return {"account": account, "date": DATE, "kind": "SF", "net_pence": sum(FIGURES[account][4:]), "periods": rows}
 
 
 def energy(ticks):
@@ -212,12 +231,19 @@ class WorkedPeriod(Checking):
         super().setUp()
         idle = [f"{unit},{DATE},{number},0,1,0" for number in range(2, 49) for unit in ("G1", "I1", "S1")]
         free = [f"{DATE},{number},0" for number in range(2, 49)]
-        self.files = {**FILES, "readings": FILES["readings"] + idle, "prices": FILES["prices"] + free}
+        # (rows of another date, which don't count)
+        other = {
+            "readings": ["G1,2024-07-02,1,7,1,3", "S1,2024-07-02,1,7,1,3"],
+            "contracts": ["C1,GENCO-P,SUPCO-C,2024-07-02,1,7"],
+            "prices": ["2024-07-02,1,7"],
+            "reallocations": ["G1,SUPCO-C,2024-07-02,1,7,7", "S1,GENCO-P,2024-07-02,1,7,7"],
+        }
+        files = {**FILES, "readings": FILES["readings"] + idle, "prices": FILES["prices"] + free}
+        self.files = {kind: rows + other.get(kind, []) for kind, rows in files.items()}
 
-    def check(self, account, figures=None, **changed):
-        """What is said of an account, if its figures or files are these. The day net stays that of the page."""
-        reply = reply_of(account, figures or FIGURES[account])
-        words = ["--reply", self.file("reply.json", json.dumps(reply | {"net_pence": sum(FIGURES[account][4:])}))]
+    def check(self, account, reply=None, **changed):
+        """What is said of an account, if its reply or files are these."""
+        words = ["--reply", self.file("reply.json", json.dumps(reply or reply_of(account)))]
         for kind, rows in {**self.files, **changed}.items():
             words += [f"--{kind}", self.file(f"{kind}.csv", "\n".join([bill.HEADERS[kind], *rows]) + "\n")]
         status, told, error = self.bill(account, DATE, *words)
@@ -233,15 +259,16 @@ class WorkedPeriod(Checking):
 
     def test_each_figure_that_is_changed_is_found(self):
         """By one in its smallest unit. A share that is changed is found by the day net alone."""
-        for account, figures in FIGURES.items():
-            for at, name in enumerate(NAMES):
-                for by in (1, -1):
-                    with self.subTest(f"{account} {name}"):
-                        changed = [*figures]
-                        changed[at] += by
-                        status, told = self.check(account, changed)
-                        self.assertEqual(status, 1, told)
-                        self.assertIn("but not the sum" if name == "share_pence" else "period 1: the office has", told)
+        for account, period, name, by in itertools.product(FIGURES, (1, 2), NAMES, (1, -1)):
+            with self.subTest(f"{account} {period} {name}"):
+                status, told = self.check(account, reply_of(account, {(period, name): by}))
+                self.assertEqual(status, 1, told)
+                self.assertIn("but not the sum" if name == "share_pence" else f"period {period}: the office has", told)
+
+    def test_periods_that_the_reply_lacks(self):
+        status, told = self.check("SUPCO-C", reply_of("SUPCO-C", count=46))
+        self.assertEqual(status, 1)
+        self.assertIn("Settlement Periods   46 of 48\n  the office has 1 to 46\n", told)
 
     def test_files_that_lack_something(self):
         """What can't be computed is said, and is no difference."""
@@ -249,7 +276,7 @@ class WorkedPeriod(Checking):
         status, told = self.check("SUPCO-C", readings=own)
         self.assertIn("Credited energy      47 of 48 are as your files give it\n  not checked in periods 1: your files have no reading of G1\n", told)
         self.assertEqual(status, 0)
-        status, told = self.check("SUPCO-C", prices=self.files["prices"][:10])
+        status, told = self.check("SUPCO-C", prices=FILES["prices"] + [f"{DATE},{number},0" for number in range(2, 11)])
         self.assertIn("Charge               10 of 48 are the office's imbalance at your price\n  not checked in periods 11 to 48: your files have no price\n", told)
         self.assertEqual(status, 0)
 
@@ -266,7 +293,7 @@ class WorkedPeriod(Checking):
     def test_wrong_words_and_files(self):
         """One line names what and where."""
         good = {kind: self.file(f"{kind}.csv", "\n".join([bill.HEADERS[kind], *rows]) + "\n") for kind, rows in self.files.items()}
-        reply = self.file("reply.json", json.dumps(reply_of("SUPCO-C", FIGURES["SUPCO-C"])))
+        reply = self.file("reply.json", json.dumps(reply_of("SUPCO-C")))
 
         def told(account="SUPCO-C", date=DATE, **other):
             words = [word for name, path in {"reply": reply, **good, **other}.items() for word in (f"--{name}", path)]

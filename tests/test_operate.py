@@ -183,6 +183,12 @@ class Site(Proxied):
             trusting(self, OPERATOR).runs(DATE)
         self.assertIn("status 502", str(raised.exception))
 
+    def test_heads_that_are_too_large(self):
+        """nginx answers them itself: a long path by 414, and a long header by 400."""
+        with running(self, self.configure()):
+            statuses = [trusting(self, key).ask_once("GET", path, None)[0] for key, path in (("", f"/{'a' * 5000}"), ("a" * 5000, "/"))]
+        self.assertEqual(statuses, [414, 400])
+
 
 class Behind(Proxied, WithOffice):
     """An office behind the site."""
@@ -190,16 +196,17 @@ class Behind(Proxied, WithOffice):
     def test_what_comes_through(self):
         """Replies, refusals and files of every length that an office takes. A client that stalls holds up nobody. No key is logged."""
         _, port = self.serve()
-        with running(self, self.configure(port)):
-            with socket.create_connection(("127.0.0.1", self.port)) as stalled:
-                stalled.sendall(b"\x16")
-                self.ask(trusting(self, OPERATOR))
+        with running(self, self.configure(port)), self.stalled():
+            self.ask(trusting(self, OPERATOR))
         log = (self.room / "office.log").read_text(encoding="utf-8")
-        self.assertEqual(re.findall(r"(?m)^\S+ 127\.0\.0\.1 (\w+ \S+ \d+) sent ", log), self.EXPECTED)
+        found = re.findall(r"(?m)^\S+ 127\.0\.0\.1 (\w+ \S+ \d+) sent ", log)
+        self.assertEqual([line for line in found if line not in self.GIVEN_UP], self.EXPECTED)
         told = "".join(path.read_text(encoding="utf-8") for path in self.room.glob("office*.log"))
         for key in (OPERATOR, "citysupkey1", "hidden"):
             self.assertNotIn(key, told)
 
+    # What nginx may write of the client that stalls. The office never hears of it.
+    GIVEN_UP = "POST /files/prices/slow.csv 400", "POST /files/prices/slow.csv 408"
     EXPECTED = [
         "POST /files/parties/parties.csv 200",
         "GET /balances/CITYSUP-C 200",
@@ -209,6 +216,14 @@ class Behind(Proxied, WithOffice):
         "POST /files/meters/large.csv 413",
         "POST /files/units/units.csv 200",
     ]
+
+    @contextlib.contextmanager
+    def stalled(self):
+        """A client that has sent a part of its file."""
+        tls = ssl.create_default_context(cafile=self.room / "office.crt")
+        with socket.create_connection(("127.0.0.1", self.port)) as plain, tls.wrap_socket(plain, server_hostname="localhost") as client:
+            client.sendall(b"POST /files/prices/slow.csv HTTP/1.1\r\nHost: localhost\r\nContent-Length: 100\r\n\r\ndate,")
+            yield
 
     def ask(self, office):
         """What the log has."""

@@ -10,7 +10,8 @@ is raised as `Refused`.
 
 A request without an answer is sent again, with the same bytes. So is one that is answered 503. That is safe: a file or a run that was
 accepted counts once, and its first reply comes again. Any other answer stands, and nothing is sent again. If the last try has no answer
-either, `NoAnswer` is raised: the request may have been handled, and may be sent again later."""
+either, `NoAnswer` is raised: the request may have been handled, and may be sent again later. A contract or a reallocation that wasn't
+accepted by then comes at its new moment, and may be late."""
 
 import decimal
 import functools
@@ -105,10 +106,11 @@ class Office:
         """The status and the body of an answer that came whole."""
         connection = self.connect()
         try:
+            connection.connect()
             try:
                 connection.request(method, path, body, self.headers)
-            except BrokenPipeError:
-                pass  # the office may have answered before it took the whole body
+            except (BrokenPipeError, ConnectionResetError):
+                pass  # an answer may have come before the whole body was taken
             answer = connection.getresponse()
             if answer.length is None:
                 raise http.client.IncompleteRead(b"")  # the head was cut: each reply says how long it is
