@@ -160,7 +160,13 @@ class Answers(unittest.TestCase):
         self.assertNotIn(OPERATOR, str(raised.exception))
 
     def test_addresses_and_keys_that_are_none(self):
-        for address, key in (("127.0.0.1:8080", ""), ("ftp://a", ""), ("http://a/b", ""), ("http://a:1", "hidden key"), ("http://a:1", "hidden\n")):
+        for address, key in (
+            ("127.0.0.1:8080", ""),
+            ("ftp://a", ""),
+            ("http://a/b", ""),
+            ("http://a:1", "hidden key"),
+            ("http://a:1", "hidden\n"),
+        ):
             with self.subTest(address), self.assertRaises(ValueError) as raised:
                 gaugepoppy.Office(address, key)
             self.assertNotIn("hidden", str(raised.exception))
@@ -274,10 +280,12 @@ class WorkedPeriod(Checking):
         """What can't be computed is said, and is no difference."""
         own = [row for row in self.files["readings"] if row.startswith("S1")]
         status, told = self.check("SUPCO-C", readings=own)
-        self.assertIn("Credited energy      47 of 48 are as your files give it\n  not checked in periods 1: your files have no reading of G1\n", told)
+        self.assertIn("\nCredited energy      47 of 48 are as your files give it\n", told)
+        self.assertIn("\n  not checked in periods 1: your files have no reading of G1\n", told)
         self.assertEqual(status, 0)
         status, told = self.check("SUPCO-C", prices=FILES["prices"] + [f"{DATE},{number},0" for number in range(2, 11)])
-        self.assertIn("Charge               10 of 48 are the office's imbalance at your price\n  not checked in periods 11 to 48: your files have no price\n", told)
+        self.assertIn("\nCharge               10 of 48 are the office's imbalance at your price\n", told)
+        self.assertIn("\n  not checked in periods 11 to 48: your files have no price\n", told)
         self.assertEqual(status, 0)
 
     def test_a_reallocation_that_the_party_does_not_know(self):
@@ -288,7 +296,8 @@ class WorkedPeriod(Checking):
 
     def test_days_and_roundings(self):
         self.assertEqual([bill.near(number, 10) for number in (5, -5, 4, -4, 0, 15)], [1, -1, 0, 0, 0, 2])
-        self.assertEqual([bill.periods_of(date) for date in ("2024-03-31", DATE, "2024-10-27", "2024-10-20", "2024-03-30")], [46, 48, 50, 48, 48])
+        dates = "2024-03-31", DATE, "2024-10-27", "2024-10-20", "2024-03-30"
+        self.assertEqual([bill.periods_of(date) for date in dates], [46, 48, 50, 48, 48])
 
     def test_wrong_words_and_files(self):
         """One line names what and where."""
@@ -302,16 +311,21 @@ class WorkedPeriod(Checking):
             return status, error.splitlines()[-1].replace(str(self.room), "")
 
         wrong = self.file("wrong.csv", f"{bill.HEADERS['prices']}\n{DATE},1,5.123456\n")
-        self.assertEqual(told(prices=wrong), (1, 'bill: /wrong.csv: row 1: price is "5.123456", expected a decimal with at most 5 digits behind the point'))
+        price = 'price is "5.123456", expected a decimal with at most 5 digits behind the point'
+        self.assertEqual(told(prices=wrong), (1, f"bill: /wrong.csv: row 1: {price}"))
         self.assertEqual(told(units=wrong), (1, f"bill: /wrong.csv: its header isn't {bill.HEADERS['units']}"))
         short = self.file("short.csv", f"{bill.HEADERS['prices']}\n\n{DATE},1\n")
         self.assertEqual(told(prices=short), (1, "bill: /short.csv: row 1 has 2 fields, expected 3"))
         self.assertEqual(told(prices=str(self.room / "none")), (1, "bill: /none: No such file or directory"))
         self.assertEqual(told(reply=short), (1, "bill: /short.csv: it is no reply about an account"))
+        for name, value in (("net_pence", "1"), ("periods", {}), ("periods", [{}]), ("kind", None)):
+            other = self.file("other.json", json.dumps({**reply_of("SUPCO-C"), name: value}))
+            self.assertEqual(told(reply=other), (1, "bill: /other.json: it is no reply about an account"))
         self.assertEqual(told(account="GENCO-P"), (1, f"bill: /reply.json: it is of SUPCO-C on {DATE}"))
-        self.assertEqual(told(account="GENCO")[0], 2)
-        self.assertEqual(told(date="2024-02-30")[0], 2)
-        self.assertEqual(told(office="http://a")[0], 2)
+        self.assertEqual(told(account="GENCO"), (2, f'bill.py: error: "GENCO" is no account, as CITYSUP-P or CITYSUP-C'))
+        for date in ("2024-02-30", "20240701", "2024-7-1"):
+            self.assertEqual(told(date=date), (2, f'bill.py: error: "{date}" is no date'))
+        self.assertEqual(told(office="http://a"), (2, f"bill.py: error: give --office with --key-file, or --reply"))
 
 
 def market_rows(name):
@@ -398,7 +412,8 @@ class TheMarket(Checking):
         self.assertEqual(len(accounts), 8)
         for account in accounts:
             with self.subTest(account):
-                status, told, error = self.bill(account, DATE, "--office", self.address, "--key-file", key, *self.files(), "--keep", self.room)
+                words = "--office", self.address, "--key-file", key, *self.files(), "--keep", self.room
+                status, told, error = self.bill(account, DATE, *words)
                 self.assertEqual((status, error, told.count("48 of 48")), (0, "", 6), told)
         self.office.load("meters", "meters-2.csv", (MARKET / "meters-2.csv").read_bytes())
         self.office.run(DATE, "R1")

@@ -273,7 +273,8 @@ class Bill:
 
     def check_net(self, net):
         follows = sum(row["charge_pence"] + row["share_pence"] for row in self.rows)
-        self.lines.append(f"{'Day net':<20} {pounds(net)}, {'the sum of' if net == follows else 'but not the sum of'} the charges and shares")
+        which = "the sum of" if net == follows else "but not the sum of"
+        self.lines.append(f"{'Day net':<20} {pounds(net)}, {which} the charges and shares")
         if net != follows:
             self.differs(f"they sum to {pounds(follows)}")
 
@@ -299,7 +300,8 @@ class Bill:
             self.lines.append(f"Period {period} charges {pounds(abs(more))} {'more' if more > 0 else 'less'} than your files give")
         if other:
             more = sum(amount for _, amount in other)
-            self.lines.append(f"In all that is {pounds(abs(more))} {'more' if more >= 0 else 'less'}. If it is mended, the shares change, too")
+            how = "more" if more >= 0 else "less"
+            self.lines.append(f"In all that is {pounds(abs(more))} {how}. If it is mended, the shares change, too")
 
     def unchecked(self):
         shares = sum(row["share_pence"] for row in self.rows)
@@ -334,9 +336,21 @@ def read_reply(path):
         reply = gaugepoppy.parsed(pathlib.Path(path).read_bytes())
     except OSError as cause:
         raise Fault(f"{path}: {cause.strerror}") from None
-    if reply is None or not {"account", "date", "kind", "net_pence", "periods"} <= reply.keys():
+    if not is_reply(reply):
         raise Fault(f"{path}: it is no reply about an account")
     return reply
+
+
+def is_reply(reply):
+    """Whether something has all that is read of a reply about an account."""
+    whole = {**dict.fromkeys(("account", "date", "kind"), str), "net_pence": int, "periods": list}
+    part = {**dict.fromkeys(ENERGIES, decimal.Decimal), **dict.fromkeys(("period", "charge_pence", "share_pence"), int)}
+    return has_all(reply, whole) and all(has_all(row, part) for row in reply["periods"])
+
+
+def has_all(found, kinds):
+    """Whether something is an object with values of these kinds."""
+    return isinstance(found, dict) and all(isinstance(found.get(name), kind) for name, kind in kinds.items())
 
 
 def office_of(asked):
@@ -359,10 +373,10 @@ def keep(reply, folder):
 
 
 def arguments(words):
-    parser = argparse.ArgumentParser(usage=__doc__.partition("usage: ")[2].partition("\n\n")[0], add_help=False, allow_abbrev=False)
+    usage = __doc__.partition("usage: ")[2].partition("\n\n")[0]
+    parser = argparse.ArgumentParser(prog="bill.py", usage=usage, add_help=False, allow_abbrev=False)
     parser.add_argument("account")
     parser.add_argument("date")
-    parser.add_argument("--help", action="help")
     for name in ("--office", "--key-file", "--keep", "--reply"):
         parser.add_argument(name)
     for kind in HEADERS:
@@ -371,7 +385,8 @@ def arguments(words):
     if not re.fullmatch("[A-Z0-9]{1,10}-[PC]", asked.account):
         parser.error(f'"{asked.account}" is no account, as CITYSUP-P or CITYSUP-C')
     try:
-        datetime.datetime.strptime(asked.date, "%Y-%m-%d")
+        if datetime.date.fromisoformat(asked.date).isoformat() != asked.date:
+            raise ValueError
     except ValueError:
         parser.error(f'"{asked.date}" is no date')
     if (asked.reply is None) == (asked.office is None) or (asked.office is None) != (asked.key_file is None):
@@ -397,6 +412,9 @@ def checked(asked):
 
 
 def main(words):
+    if "--help" in words:
+        print(__doc__)
+        return 0
     asked = arguments(words)
     try:
         bill = checked(asked)
