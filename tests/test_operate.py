@@ -26,7 +26,10 @@ ANALYZE, NGINX, OPENSSL = (shutil.which(name, path=PATHS) for name in ("systemd-
 OPERATOR, DATE = "op-market001", "2024-07-01"
 MARKET = HOME / "examples" / "market"
 PATIENCE = 30
-CERTIFICATE = "req -x509 -newkey ec -pkeyopt ec_paramgen_curve:prime256v1 -nodes -days 2 -subj /CN=localhost -addext subjectAltName=DNS:localhost"
+CERTIFICATE = (
+    "req -x509 -newkey ec -pkeyopt ec_paramgen_curve:prime256v1 -nodes -days 2 -subj /CN=localhost"
+    " -addext subjectAltName=DNS:localhost"
+)
 PARTS = "client_body", "proxy", "fastcgi", "uwsgi", "scgi"
 
 
@@ -122,7 +125,12 @@ class Proxied(InAFolder):
         with socket.create_server(("127.0.0.1", 0)) as free:
             self.port = free.getsockname()[1]
         site = (FOLDER / "office.nginx").read_text(encoding="utf-8")
-        places = {"listen 443": f"listen 127.0.0.1:{self.port}", "/etc/ssl/office": self.room, "/var/log/nginx": self.room, ":8080;": f":{port};"}
+        places = {
+            "listen 443": f"listen 127.0.0.1:{self.port}",
+            "/etc/ssl/office": self.room,
+            "/var/log/nginx": self.room,
+            ":8080;": f":{port};",
+        }
         for place, other in places.items():
             self.assertIn(place, site)
             site = site.replace(place, str(other))

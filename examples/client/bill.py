@@ -40,7 +40,7 @@ ENERGIES = "credited", "balancing", "contracts", "imbalance"
 CALLED = {"credited": "Credited energy", "balancing": "Balancing volume", "contracts": "Contracts", "imbalance": "Imbalance"}
 SHARE = """\
 A share is a part of the period's residual by weight. The residual is made of all accounts' charges, and the weights of all accounts'
-credits, which no party can see. Ask the agent for the account's figures: ./look why {account} {date} {kind} shows both."""
+credits, which no party can see. Ask the agent for both: they are shown by ./look why {account} {date} {kind} PERIOD"""
 CREDIT = """\
 A reallocation that the files don't have counts in the credited energy, too. No party can ask for those that others have made."""
 
