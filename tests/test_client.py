@@ -24,6 +24,7 @@ sys.path.append(str(HOME / "examples" / "client"))
 
 import bill
 import gaugepoppy
+from look import statement
 
 MARKET = HOME / "examples" / "market"
 DATE, OPERATOR = "2024-07-01", "op-market001"
@@ -247,9 +248,10 @@ class WorkedPeriod(Checking):
         files = {**FILES, "readings": FILES["readings"] + idle, "prices": FILES["prices"] + free}
         self.files = {kind: rows + other.get(kind, []) for kind, rows in files.items()}
 
-    def check(self, account, reply=None, **changed):
+    def check(self, account, reply=None, statement=None, **changed):
         """What is said of an account, if its reply or files are these."""
         words = ["--reply", self.file("reply.json", json.dumps(reply or reply_of(account)))]
+        words += ["--statement", statement] if statement else []
         for kind, rows in {**self.files, **changed}.items():
             words += [f"--{kind}", self.file(f"{kind}.csv", "\n".join([bill.HEADERS[kind], *rows]) + "\n")]
         status, told, error = self.bill(account, DATE, *words)
@@ -294,6 +296,47 @@ class WorkedPeriod(Checking):
         self.assertEqual(status, 1)
         self.assertIn("period 1: the office has -98.4360031718 MWh, your files give -130.6500000000 MWh\n", told)
 
+    # Of period 1, on the page: the residual, each account's weight and the sum of all. The residuals of the other periods are 0.
+    RESIDUAL, WEIGHTS = -106_263, {"GENCO-P": 669_060_031_718, "LINKCO-P": 0, "SUPCO-C": 1_628_639_968_282}
+
+    def with_statement(self, account, changed=(), weight=0, residual=RESIDUAL, **files):
+        """What is said with a statement of the agent, if this is added to the account's weight."""
+        lines = []
+        for period in range(1, 49):
+            known = residual, energy(self.WEIGHTS[account] + weight), energy(2_297_700_000_000)
+            known = known if period == 1 else (0, energy(0), energy(0))
+            lines.append(f"{DATE},SF,{account},{period},,,,,,0,,{','.join(map(str, known))},,")
+        path = self.file("statement.csv", "\n".join([bill.STATEMENT, f"{DATE},R1,{account},1,,,,,,0,,0,0,0,,", *lines]))
+        return self.check(account, reply_of(account, changed), statement=path, **files)
+
+    def test_shares_beside_a_statement(self):
+        """Each quota has a remainder, except for that of LINKCO-P. So one penny more or less in size may be right, by who got it."""
+        for account in FIGURES:
+            status, told = self.with_statement(account)
+            self.assertEqual((status, told.count("48 of 48")), (0, 8), told)
+            self.assertNotIn("Not checked: the shares", told)
+        for account, by, is_right in (
+            ("GENCO-P", -1, True),
+            ("GENCO-P", 1, False),
+            ("GENCO-P", -2, False),
+            ("SUPCO-C", 1, True),
+            ("SUPCO-C", -1, False),
+            ("LINKCO-P", 1, False),
+            ("LINKCO-P", -1, False),
+        ):
+            with self.subTest(f"{account} {by}"):
+                _, told = self.with_statement(account, {(1, "share_pence"): by})
+                self.assertEqual("the statement's residual by weight\n  period 1: the office has" not in told, is_right, told)
+        self.assertIn("Share                47 of 48", self.with_statement("GENCO-P", {(2, "share_pence"): 1})[1])
+        self.assertIn("gives £309.42 to £309.43\n", self.with_statement("GENCO-P", residual=106_263)[1])
+        self.assertIn("Weight               47 of 48", self.with_statement("GENCO-P", weight=1)[1])
+        status, told = self.with_statement("SUPCO-C", units=[row for row in FILES["units"] if not row.startswith("G1")])
+        self.assertIn("  not checked in periods 1: your files have no row of the unit G1\n", told)
+        self.assertEqual(status, 0)
+
+    def test_the_statement_is_the_one_of_look(self):
+        self.assertEqual(bill.STATEMENT, statement.CSV)
+
     def test_days_and_roundings(self):
         self.assertEqual([bill.near(number, 10) for number in (5, -5, 4, -4, 0, 15)], [1, -1, 0, 0, 0, 2])
         dates = "2024-03-31", DATE, "2024-10-27", "2024-10-20", "2024-03-30"
@@ -321,6 +364,8 @@ class WorkedPeriod(Checking):
         for name, value in (("net_pence", "1"), ("periods", {}), ("periods", [{}]), ("kind", None)):
             other = self.file("other.json", json.dumps({**reply_of("SUPCO-C"), name: value}))
             self.assertEqual(told(reply=other), (1, "bill: /other.json: it is no reply about an account"))
+        other = self.file("statement.csv", f"{bill.STATEMENT}\n{DATE},R1,SUPCO-C,1,,,,,,0,,0,0,0,,\n")
+        self.assertEqual(told(statement=other), (1, f"bill: /statement.csv: it has no line of SUPCO-C, {DATE}, SF, period 1"))
         self.assertEqual(told(account="GENCO-P"), (1, f"bill: /reply.json: it is of SUPCO-C on {DATE}"))
         self.assertEqual(told(account="GENCO"), (2, f'bill.py: error: "GENCO" is no account, as CITYSUP-P or CITYSUP-C'))
         for date in ("2024-02-30", "20240701", "2024-7-1"):

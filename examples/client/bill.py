@@ -3,11 +3,13 @@
 its own book of contracts and the prices.
 
 usage: bill.py ACCOUNT DATE --office URL --key-file PATH --units FILE --readings FILE.. --contracts FILE.. --prices FILE..
-               [--reallocations FILE..] [--keep FOLDER]
+               [--reallocations FILE..] [--statement FILE] [--keep FOLDER]
        bill.py ACCOUNT DATE --reply FILE --units FILE ..
 
 The files have the forms of the kinds `units`, `meters`, `contracts`, `prices` and `reallocations` of docs/formats.md. Of several rows of
 one key the last counts. Rows of other dates, units and accounts may be there, and aren't used.
+
+A statement is the agent's, as `./look statement ACCOUNT DATE KIND --csv` writes it. With it the shares are checked, too.
 
 With --keep the office's reply is kept in a folder under the name ACCOUNT-DATE-KIND.json, and --reply checks such a file without asking
 the office: once a later run is made, the office doesn't answer the earlier one any more.
@@ -34,13 +36,23 @@ HEADERS = {
     "prices": "date,period,price",
     "reallocations": "unit,account,date,period,percent,fixed_mwh",
 }
-# How many digits behind the point a column has at most.
+STATEMENT = (
+    "date,kind,account,period,from,credited,balancing,contracts,imbalance,price,charge_pence,residual_pence,weight,weights,"
+    "share_pence,pays_pence"
+)
+# How many digits behind the point a column has at most. A period has digits alone, and pence may have a minus.
 PLACES = {"metered_mwh": 3, "balancing_mwh": 3, "mwh": 3, "fixed_mwh": 3, "tlm": 7, "percent": 5, "price": 5, "period": 0}
+PLACES |= {"residual_pence": -1, "weight": 10, "weights": 10}
+EXPECTED = {-1: "a whole number", 0: "digits"}
 ENERGIES = "credited", "balancing", "contracts", "imbalance"
 CALLED = {"credited": "Credited energy", "balancing": "Balancing volume", "contracts": "Contracts", "imbalance": "Imbalance"}
 SHARE = """\
+Not checked: the shares, {shares} in all.
 A share is a part of the period's residual by weight. The residual is made of all accounts' charges, and the weights of all accounts'
-credits, which no party can see. Ask the agent for both: they are shown by ./look why {account} {date} {kind} PERIOD"""
+credits, which no party can see. Ask the agent for ./look statement {account} {date} {kind} --csv, and give it by --statement."""
+PENNIES = """\
+Not checked: the residual of each period and the sum of all weights, which are the agent's statement's, and who got the pennies that
+were left over. They are made of all accounts' charges and credits, which no party can see."""
 CREDIT = """\
 A reallocation that the files don't have counts in the credited energy, too. No party can ask for those that others have made."""
 
@@ -56,22 +68,23 @@ class Fault(Exception):
 
 def whole(text, places):
     """A decimal as a whole number of its smallest unit."""
-    if not re.fullmatch(rf"-?[0-9]+(\.[0-9]{{1,{places}}})?" if places else "[0-9]+", text):
+    form = {-1: "-?[0-9]+", 0: "[0-9]+"}.get(places, rf"-?[0-9]+(\.[0-9]{{1,{places}}})?")
+    if not re.fullmatch(form, text):
         raise ValueError
     before, _, after = text.partition(".")
     return int(before + after.ljust(places, "0"))
 
 
-def rows_of(kind, path):
+def rows_of(names, path):
     """Each row of a file, by the names of its columns. Numbers are whole."""
-    header = HEADERS[kind].split(",")
+    header = names.split(",")
     try:
         with open(path, encoding="utf-8-sig", newline="") as file:
             first, *rows = [row for row in csv.reader(file) if row] or [None]
     except (OSError, ValueError, csv.Error) as cause:
         raise Fault(f"{path}: {getattr(cause, 'strerror', None) or cause}") from None
     if first != header:
-        raise Fault(f"{path}: its header isn't {HEADERS[kind]}")
+        raise Fault(f"{path}: its header isn't {names}")
     for number, row in enumerate(rows, 1):
         if len(row) != len(header):
             raise Fault(f"{path}: row {number} has {len(row)} fields, expected {len(header)}")
@@ -82,13 +95,13 @@ def value_of(path, number, name, text):
     try:
         return whole(text, PLACES[name]) if name in PLACES else text
     except ValueError:
-        expected = f"a decimal with at most {PLACES[name]} digits behind the point" if PLACES[name] else "digits"
+        expected = EXPECTED.get(PLACES[name], f"a decimal with at most {PLACES[name]} digits behind the point")
         raise Fault(f'{path}: row {number}: {name} is "{text}", expected {expected}') from None
 
 
 def last_rows(kind, paths, date, *names):
     """The last row of each key among those of a date."""
-    rows = (row for path in paths for row in rows_of(kind, path))
+    rows = (row for path in paths for row in rows_of(HEADERS[kind], path))
     return {tuple(row[name] for name in names): row for row in rows if row.get("date", date) == date}
 
 
@@ -139,11 +152,11 @@ class Period:
         given = [row for (_, number, _), row in own.reallocations.items() if number == period]
         readings = {unit: self.reading(unit) for unit in led}
         others = {row["unit"]: self.reading(row["unit"]) for row in given if row["account"] == account}
-        self.credited = self.balancing = None
+        self.credited = self.balancing = self.weight = None
         if None not in readings.values():
             self.balancing = sum(reading["balancing_mwh"] * reading["tlm"] for reading in readings.values())
             if None not in others.values():
-                self.credited = self.credit(readings, others, given)
+                self.take_credits(self.credits(readings, others, given))
         self.contracts = sum(sign * row["mwh"] * 10**7 for row, sign in self.sold())
         self.price = own.prices.get((period,), {}).get("price")
         if self.price is None:
@@ -165,11 +178,22 @@ class Period:
             self.lacks.append(lack)
         return found
 
-    def credit(self, readings, others, given):
-        """The rests of the units that the account leads, and the parts of other units that it is given."""
-        rests = sum(reading["metered_mwh"] * reading["tlm"] for reading in readings.values())
-        away = sum(part_of(readings[row["unit"]], row) for row in given if row["unit"] in readings)
-        return rests - away + sum(part_of(others[row["unit"]], row) for row in given if row["account"] == self.account)
+    def credits(self, readings, others, given):
+        """By unit: the rests of those that the account leads, and its parts of others."""
+        found = {unit: reading["metered_mwh"] * reading["tlm"] for unit, reading in readings.items()}
+        for row in given:
+            if row["unit"] in readings:
+                found[row["unit"]] -= part_of(readings[row["unit"]], row)
+            elif row["account"] == self.account:
+                found[row["unit"]] = part_of(others[row["unit"]], row)
+        return found
+
+    def take_credits(self, found):
+        """Their sum, and the account's weight, if it is known of each unit whether it is an interconnector's."""
+        self.credited = sum(found.values())
+        self.lacks += [f"no row of the unit {unit}" for unit in found if unit not in self.own.units]
+        if found.keys() <= self.own.units.keys():
+            self.weight = sum(abs(credit) for unit, credit in found.items() if self.own.units[unit]["interconnector"] == "no")
 
     def sold(self):
         """The rows of the account's contracts, with 1 where it sells and -1 where it buys."""
@@ -216,8 +240,9 @@ class Bill:
         self.own = {row["period"]: Period(own, self.account, self.date, row["period"]) for row in self.rows}
         self.lines, self.agrees = [], True
 
-    def check(self, contracts=None):
-        """Fills the lines, which tell what was checked and what wasn't. The contracts are the office's, if it was asked for them."""
+    def check(self, contracts, statement):
+        """Fills the lines, which tell what was checked and what wasn't. The contracts are the office's, if it was asked for them, and
+        the statement is the agent's, if there is one."""
         net = self.reply["net_pence"]
         self.lines.append(f"{self.account}, {self.date}, run {self.reply['kind']}: {'pays' if net >= 0 else 'is paid'} {pounds(abs(net))}")
         self.check_periods()
@@ -225,11 +250,15 @@ class Bill:
             self.check_each(CALLED[name], "as your files give it", lambda row: self.beside(row, name))
         self.check_each("Imbalance", "the credited energy less both", self.imbalance)
         self.check_each("Charge", "the office's imbalance at your price", self.charge)
+        if statement is not None:
+            self.statement = statement
+            self.check_each("Weight", "as your files give it", self.weight)
+            self.check_each("Share", "the statement's residual by weight", self.share)
         self.check_net(net)
         if contracts is not None:
             self.check_book(contracts)
         self.worth()
-        self.unchecked()
+        self.unchecked(PENNIES if statement is not None else SHARE)
 
     def differs(self, line):
         self.agrees = False
@@ -271,6 +300,26 @@ class Bill:
         follows = charge_of(row["imbalance"], price)
         return "" if follows == row["charge_pence"] else f"the office has {pounds(row['charge_pence'])}, your price gives {pounds(follows)}"
 
+    def weight(self, row):
+        mine, theirs = self.own[row["period"]].weight, self.statement[row["period"]]["weight"]
+        if mine is None or mine == theirs:
+            return mine if mine is None else ""
+        return f"the statement has {shown(theirs)}, your files give {shown(mine)}"
+
+    def share(self, row):
+        """A share is the whole pence of its quota, or one more if there is a remainder. If all weights are 0, any part may be right."""
+        line = self.statement[row["period"]]
+        residual, sign = line["residual_pence"], 1 if line["residual_pence"] >= 0 else -1
+        if line["weights"]:
+            least, rest = divmod(abs(residual) * line["weight"], line["weights"])
+            most = least + (rest > 0)
+        else:
+            least, most = 0, abs(residual)
+        if least <= sign * row["share_pence"] <= most:
+            return ""
+        range_of = pounds(sign * least) if least == most else f"{pounds(sign * least)} to {pounds(sign * most)}"
+        return f"the office has {pounds(row['share_pence'])}, the residual {pounds(residual)} gives {range_of}"
+
     def check_net(self, net):
         follows = sum(row["charge_pence"] + row["share_pence"] for row in self.rows)
         which = "the sum of" if net == follows else "but not the sum of"
@@ -303,10 +352,10 @@ class Bill:
             how = "more" if more >= 0 else "less"
             self.lines.append(f"In all that is {pounds(abs(more))} {how}. If it is mended, the shares change, too")
 
-    def unchecked(self):
-        shares = sum(row["share_pence"] for row in self.rows)
+    def unchecked(self, what):
         words = {"account": self.account, "date": self.date, "kind": self.reply["kind"]}
-        self.lines += ["", f"Not checked: the shares, {pounds(shares)} in all.", *SHARE.format(**words).splitlines(), *CREDIT.splitlines()]
+        shares = pounds(sum(row["share_pence"] for row in self.rows))
+        self.lines += ["", *what.format(shares=shares, **words).splitlines(), *CREDIT.splitlines()]
 
 
 def told(row, account):
@@ -353,6 +402,16 @@ def has_all(found, kinds):
     return isinstance(found, dict) and all(isinstance(found.get(name), kind) for name, kind in kinds.items())
 
 
+def read_statement(path, reply):
+    """The lines of an agent's statement by their periods. It is one of the reply's run, and has each of its periods."""
+    names = "account", "date", "kind"
+    rows = {row["period"]: row for row in rows_of(STATEMENT, path) if all(row[name] == reply[name] for name in names)}
+    for row in reply["periods"]:
+        if row["period"] not in rows:
+            raise Fault(f"{path}: it has no line of {reply['account']}, {reply['date']}, {reply['kind']}, period {row['period']}")
+    return rows
+
+
 def office_of(asked):
     try:
         with open(asked.key_file, encoding="utf-8") as file:
@@ -377,7 +436,7 @@ def arguments(words):
     parser = argparse.ArgumentParser(prog="bill.py", usage=usage, add_help=False, allow_abbrev=False)
     parser.add_argument("account")
     parser.add_argument("date")
-    for name in ("--office", "--key-file", "--keep", "--reply"):
+    for name in ("--office", "--key-file", "--keep", "--reply", "--statement"):
         parser.add_argument(name)
     for kind in HEADERS:
         parser.add_argument(f"--{kind}", nargs="+", default=[], required=kind != "reallocations")
@@ -407,7 +466,8 @@ def checked(asked):
     if asked.keep is not None:
         keep(reply, asked.keep)
     bill = Bill(reply, own)
-    bill.check(None if office is None else office.contracts(asked.account, asked.date))
+    contracts = None if office is None else office.contracts(asked.account, asked.date)
+    bill.check(contracts, None if asked.statement is None else read_statement(asked.statement, reply))
     return bill
 
 
