@@ -123,6 +123,13 @@ class Documents(unittest.TestCase):
 class Links(unittest.TestCase):
     needs_programs = False
 
+    def test_the_index_has_each_page_once(self):
+        """docs/README.md names each page of its folder, on a line of its own."""
+        pages = {page.name for ending in ("md", "yaml") for page in (HOME / "docs").glob(f"*.{ending}")} - {"README.md"}
+        lines = re.findall(r"(?m)^- \[[^\]]+\]\(([^)]+)\): .", (HOME / "docs/README.md").read_text(encoding="utf-8"))
+        self.assertEqual(sorted(line for line in lines if not line.startswith("../")), sorted(pages))
+        self.assertEqual(len(lines), len(set(lines)))
+
     def test_each_link_leads_somewhere(self):
         pages = [page for folder in (".", "docs", "tests", "tests/versions", "crates", "bench", "examples") for page in (HOME / folder).glob("*.md")]
         found = [(page, *link) for page in pages for link in LINK.findall(BLOCK.sub("", page.read_text(encoding="utf-8")))]
