@@ -16,6 +16,7 @@ from look import commands
 START = (HOME / "docs/start.md").read_text(encoding="utf-8")
 PARTY = (HOME / "docs/party.md").read_text(encoding="utf-8")
 DAY = "2024-07-01"
+PATIENCE = 120
 
 
 def steps():
@@ -30,16 +31,18 @@ class TenMinutes(OfTheProgram):
     """docs/start.md"""
 
     def test_each_line(self):
-        """All are typed one after the other in a folder with the examples, except for the port."""
+        """All are typed one after the other in a folder with the examples, except for the port. Where the page sleeps until the office
+        listens, the test waits for that."""
         for name, target in ("settle", SETTLE), ("look", HOME / "look"), ("examples", HOME / "examples"):
             (self.room / name).symlink_to(target)
         with socket.create_server(("127.0.0.1", 0)) as free:
             port = str(free.getsockname()[1])
-        how = {"cwd": self.room, "stdin": subprocess.DEVNULL, "capture_output": True, "text": True, "timeout": 60}
+        listening = f"until grep -q ':{int(port):04X} 00000000:0000 0A ' /proc/net/tcp; do sleep 0.1; done"
+        how = {"cwd": self.room, "stdin": subprocess.DEVNULL, "capture_output": True, "text": True, "timeout": PATIENCE}
         shown = []
         for lines, printed in steps():
             with self.subTest(lines):
-                made = subprocess.run(["sh", "-c", lines.replace("8080", port) + "wait\n"], env={**os.environ, "SETTLE_PROGRAM": SETTLE}, **how)
+                made = subprocess.run(["sh", "-c", lines.replace("8080", port).replace("sleep 2", listening) + "wait\n"], env={**os.environ, "SETTLE_PROGRAM": SETTLE}, **how)
                 told = (made.stdout + made.stderr).replace(port, "8080")
                 if printed is None:
                     self.assertEqual(told, "")
