@@ -86,7 +86,7 @@ class Examples(OfTheProgram):
         self.file(name, text)
         (moment,) = re.findall(r"`--at (\d+)`", BEFORE)
         kind = KINDS[text.partition("\n")[0]]
-        status, out, err = settle("load", "--db", "office.db", "--key", OPERATOR, f"--at={moment}", kind, name, cwd=self.room)
+        status, out, err = settle("load", "--db", "refusals.db", "--key", OPERATOR, f"--at={moment}", kind, name, cwd=self.room)
         return status, (out + err).decode()
 
     def begin(self):
