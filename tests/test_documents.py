@@ -32,6 +32,15 @@ def commands_of(text):
             yield words[1], after
 
 
+def is_as_printed(test, told, printed):
+    """Compares what a command told with what a document shows of it."""
+    if "\n...\n" not in f"\n{printed}":
+        test.assertEqual(told, printed)
+        return
+    parts = [re.escape(part) for part in re.split(r"^\.\.\.\n", printed, flags=re.MULTILINE)]
+    test.assertRegex(told, r"\A" + r"(?:.*\n)+?".join(parts) + r"\Z")
+
+
 class Documents(unittest.TestCase):
     def setUp(self):
         """A folder with the examples, in which commands leave their files."""
@@ -55,12 +64,7 @@ class Documents(unittest.TestCase):
     def compare(self, words, printed):
         """Runs a command. Standard error is appended to standard output."""
         made = subprocess.run([SETTLE, *shlex.split(words)], cwd=self.room, capture_output=True, text=True)
-        told = made.stdout + made.stderr
-        if "\n...\n" not in f"\n{printed}":
-            self.assertEqual(told, printed)
-            return
-        parts = [re.escape(part) for part in re.split(r"^\.\.\.\n", printed, flags=re.MULTILINE)]
-        self.assertRegex(told, r"\A" + r"(?:.*\n)+?".join(parts) + r"\Z")
+        is_as_printed(self, made.stdout + made.stderr, printed)
 
     def test_the_office_that_the_readme_serves(self):
         """The shell lines that serve the office and ask it, after the commands before them."""
@@ -122,6 +126,13 @@ class Documents(unittest.TestCase):
 
 class Links(unittest.TestCase):
     needs_programs = False
+
+    def test_the_index_has_each_page_once(self):
+        """docs/README.md names each page of its folder, on a line of its own."""
+        pages = {page.name for ending in ("md", "yaml") for page in (HOME / "docs").glob(f"*.{ending}")} - {"README.md"}
+        lines = re.findall(r"(?m)^- \[[^\]]+\]\(([^)]+)\): .", (HOME / "docs/README.md").read_text(encoding="utf-8"))
+        self.assertEqual(sorted(line for line in lines if not line.startswith("../")), sorted(pages))
+        self.assertEqual(len(lines), len(set(lines)))
 
     def test_each_link_leads_somewhere(self):
         pages = [page for folder in (".", "docs", "tests", "tests/versions", "crates", "bench", "examples") for page in (HOME / folder).glob("*.md")]
