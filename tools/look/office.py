@@ -74,8 +74,7 @@ class Office:
             raise Fault(f"{self.path}: it is no office's file: its settings have {len(rows)} rows")
         version, lead_minutes = rows[0]
         if version != VERSION:
-            told = f"its tables are of version {version}, and those of version {VERSION} are read here"
-            raise Fault(f"{self.path}: {told}: `settle migrate` turns those of an earlier version into its own")
+            raise Fault(f"{self.path}: its tables are of version {version}, and only those of version {VERSION} are read here")
         return lead_minutes
 
     def rows(self, statement, *values):
