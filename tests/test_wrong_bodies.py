@@ -246,7 +246,7 @@ fn hh_rows::keys::right: proved
         """And those of the way of a file and of a run over a database."""
         tried = {edit.parent.parent.name: {other.stem for other in edit.parent.iterdir()} for edit in HOME.glob("crates/*/must-fail/*.edit")}
         layer, layers = None, {}
-        for named, crate, _, proved in rows_of((HOME / "docs" / "architecture.md").read_text(encoding="utf-8"), LAYERS):
+        for named, crate, _ in rows_of((HOME / "docs" / "architecture.md").read_text(encoding="utf-8"), LAYERS):
             layer = named or layer
             layers.setdefault(layer, []).append(crate.strip("`"))
         self.assertGreater(len(layers), 10)
