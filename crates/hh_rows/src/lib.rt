@@ -19,9 +19,9 @@ pub use file_body::FileBody;
 pub use file_kind::FileKind;
 pub use hh_names::{Account, Fault, FileName, Kwh, NetKwh, Pence, Percent, PeriodNumber, Price};
 pub use hh_time::{Day, SettlementDate, deadline};
-pub use keys::{ContractKey, ReallocationKey, UnitPeriod};
+pub use keys::{ContractKey, LeadKey, ReallocationKey, UnitPeriod};
 pub use rows::{
-    ContractRow, MeterRow, PartyRegistration, PartyRow, PriceRow, ReallocationRow, Row,
+    ContractRow, LeadTerm, MeterRow, PartyRegistration, PartyRow, PriceRow, ReallocationRow, Row,
     UnitRegistration, UnitRow,
 };
 pub use settings::{LeadMinutes, Settings};

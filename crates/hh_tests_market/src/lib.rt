@@ -14,6 +14,8 @@ mod inputs_tests;
 #[cfg(test)]
 mod num_tests;
 #[cfg(test)]
+mod registrations_tests;
+#[cfg(test)]
 mod rows_tests;
 #[cfg(test)]
 mod rules_tests;
