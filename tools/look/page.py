@@ -1,14 +1,14 @@
 """`look page`: a run as one page in HTML to read, to print and to keep. It has no script and asks for nothing from the net, and what it
 shows is recomputed when it is written."""
 
+import functools
 import html
 
 from . import clock
 from .figures import counted, decimal, near, pounds, rounded
 from .office import KINDS, name_of
 from .picture import LONG, SHORT, drawn
-from .postings import Posted
-from .recount import Day
+from .postings import posted_by
 from .statement import account_is_there
 from .telling import DONE, FAULT, Fault, Told
 from .words import account, takes_date, takes_kind, takes_office
@@ -47,7 +47,7 @@ def tell(office, asked):
     kind = office.run(asked.date, asked.kind)
     if asked.account is not None:
         account_is_there(office, asked.account)
-    posted = Posted(Day(office, asked.date), kind)
+    posted = posted_by(office, asked.date, kind)
     page = Page(posted, asked.account)
     return Told(page.lines(), FAULT if posted.faults() else DONE, posted.closing() if posted.faults() else ())
 
@@ -147,12 +147,16 @@ class Page:
         yield f'<section id="{name}"><input class="fold" type="checkbox" id="of-{name}"{is_open}/><label for="of-{name}">{told}</label>'
         yield f'<table class="of">{row_of(OF_PERIODS, "th")}'
         for period, row in rows.items():
-            price = self.recount.inputs.price(period)
-            shown = "" if price is None else figure(decimal(near(price, 1000), 2))
-            energy = (figure(rounded(ticks)) for ticks in row[:4])
-            cash = (figure(pounds(pence)) for pence in (row.charge, row.share, row.charge + row.share))
-            yield row_of([period, clock.wall_clock(clock.start(self.posted.day, period)), *energy, shown, *cash])
+            begins, price = self.shown(period)
+            cells = [str(period), begins, *map(rounded, row[:4]), price, *map(pounds, (row.charge, row.share, row.charge + row.share))]
+            yield figure(f"<tr><td>{'</td><td>'.join(cells)}</td></tr>")
         yield "</table></section>"
+
+    @functools.cache
+    def shown(self, period):
+        """When a period begins, and its price."""
+        price = self.recount.inputs.price(period)
+        return clock.wall_clock(clock.start(self.posted.day, period)), "" if price is None else decimal(near(price, 1000), 2)
 
 
 def laws_of(posted):
@@ -178,9 +182,10 @@ def laws_of(posted):
 
 def are_whole(recount):
     """Whether the credits of each unit sum to what it has metered, times its multiplier."""
-    for period, units in recount.credits.items():
-        for unit, credits in units.items():
-            reading = recount.inputs.reading(period, unit)
-            if reading is None or sum(credits.values()) != reading.metered * reading.tlm:
-                return False
+    for period, credits in recount.credits.items():
+        sums, readings = {}, recount.inputs.readings(period)
+        for unit, _, _, ticks in credits:
+            sums[unit] = sums.get(unit, 0) + ticks
+        if sums != {unit: metered * tlm for unit, (metered, tlm, _) in readings.items() if unit in sums}:
+            return False
     return True
