@@ -11,6 +11,7 @@ from .picture import LONG, SHORT, drawn
 from .postings import posted_by
 from .statement import account_is_there
 from .telling import DONE, FAULT, Fault, Told
+from .when import kind_of_day
 from .words import account, takes_date, takes_kind, takes_office
 
 STYLE = f"""
@@ -23,10 +24,11 @@ ul{{list-style:none;padding:0}} .no{{color:#b00020}} .yes b{{color:#00632e}} a{{
 .long{{color:{LONG}}} .short{{color:{SHORT}}} svg{{max-width:100%;height:auto}}
 .fold{{position:absolute;opacity:0}} .fold+label{{cursor:pointer;display:block;padding:.2em 0}}
 .fold+label::before{{content:"▸ "}} .fold:checked+label::before{{content:"▾ "}}
-.fold:focus+label{{outline:1px dotted}} .fold~.of{{display:none}} .fold:checked~.of{{display:table}}
+.fold:focus+label{{outline:1px dotted}} .fold~.of{{display:none}} .fold:checked~.of{{display:table;margin-bottom:1em}}
+.of th:first-child,.of td:first-child{{text-align:right}}
 @media print{{
 body{{max-width:none;font-size:10px}} section{{break-inside:avoid}}
-.fold~.of{{display:table}} .fold+label::before{{content:""}}
+.fold~.of{{display:table}} .fold+label::before{{content:""}} .fold+label{{margin-top:1.5em;font-weight:bold}}
 }}
 """
 POLICY = "default-src 'none'; style-src 'unsafe-inline'"
@@ -92,7 +94,7 @@ class Page:
             f'<meta http-equiv="Content-Security-Policy" content="{POLICY}"/>',
             f'<meta name="viewport" content="width=device-width"/><title>{title}</title><style>{STYLE}</style></head><body>',
             f"<h1>{title}</h1>",
-            f"<p>{clock.weekday_of(self.posted.day)}: {counts}. {residual}</p>",
+            f"<p>{clock.weekday_of(self.posted.day)}{kind_of_day(self.posted.day)}: {counts}. {residual}</p>",
             *self.laws(),
             *self.accounts(),
             *self.field(),
@@ -129,12 +131,15 @@ class Page:
 
     def field(self):
         """The picture of the imbalances."""
-        told = '<p>In MWh, all on one scale: <b class="long">long</b> above the line, <b class="short">short</b> below it.</p>'
+        told = (
+            '<p>In MWh, all on one scale: <b class="long">long</b> above the line, <b class="short">short</b> below it. At the right '
+            "are the sums of both over the day. The residual, in pounds, has a scale of its own.</p>"
+        )
         return ["<h2>Imbalances by period</h2>", told, *drawn(self.posted.day, self.by_account, self.recount)]
 
     def statements(self):
         """Each account's periods, which are folded on the screen and printed open."""
-        lines = ["<h2>Statements</h2>"]
+        lines = ["<h2>Statements</h2>", "<p>Energies are in MWh, and prices in pounds per MWh.</p>"]
         for one, rows in self.by_account.items():
             if self.alone in (None, one) and any(any(row) for row in rows.values()):
                 lines += self.statement(one, rows)
