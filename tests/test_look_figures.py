@@ -386,8 +386,9 @@ class LargeOffice(Looking):
         beside.Beside(lambda: time.sleep(3600)).end()
         with self.assertRaises(ChildProcessError):
             os.waitpid(-1, os.WNOHANG)
-        with unittest.mock.patch.object(office, "LARGE", 0), unittest.mock.patch.object(beside, "tell", lambda *_: os._exit(1)):
-            self.assertEqual(look("postings", "--db", self.kept("market"), DAY, "R1")[0], 0)
+        for name, instead in ("tell", lambda *_: os._exit(1)), ("os.fork", unittest.mock.Mock(side_effect=OSError(11, "no process"))):
+            with unittest.mock.patch.object(office, "LARGE", 0), unittest.mock.patch(f"look.beside.{name}", instead):
+                self.assertEqual(look("postings", "--db", self.kept("market"), DAY, "R1")[0], 0)
 
     def test_sums(self):
         """The same rows have the same sum, however they were made, and others have another."""

@@ -79,14 +79,19 @@ def rows_of(body, part=""):
         header, *rows = [record for record in csv.reader(io.StringIO(text, newline="")) if record]
         return Rows(len(rows), range(1, len(rows) + 1), list(zip(*rows, strict=True)) if rows else [()] * len(header))
     header, *lines = [line for line in text.split("\n") if line]
-    numbers, count, width = range(1, len(lines) + 1), len(lines), header.count(",") + 1
-    if part:
+    count, numbers = len(lines), range(1, len(lines) + 1)
+    if text.count(part) < count:
         numbers = [number for number, line in enumerate(lines, 1) if part in line]
         lines = [lines[number - 1] for number in numbers]
+    return Rows(count, numbers, columns_of(lines, header.count(",") + 1))
+
+
+def columns_of(lines, width):
+    """The fields of lines that have so many, column by column."""
     fields = ",".join(lines).split(",") if lines else []
     if len(fields) != width * len(lines):
-        raise ValueError(header)
-    return Rows(count, numbers, [fields[at::width] for at in range(width)])
+        raise ValueError(width)
+    return [fields[at::width] for at in range(width)]
 
 
 class Taken:

@@ -18,14 +18,17 @@ class Beside:
 
     def __init__(self, find):
         self.found, writing = os.pipe()
-        self.process = os.fork()
-        if not self.process:
+        try:
+            self.process = os.fork()
+        except OSError:
+            self.process = None  # and so nothing is found out
+        if self.process == 0:
             tell(find, writing)
         os.close(writing)
 
     def result(self):
         """What was found. None if the process came to no end, and at the second call."""
-        if self.process is None:
+        if self.found is None:
             return None
         with open(self.found, "rb", closefd=False) as file:
             told = file.read()
@@ -34,11 +37,13 @@ class Beside:
 
     def end(self):
         """Nothing of the process stays."""
+        if self.found is None:
+            return
+        os.close(self.found)
+        self.found = None
         if self.process is not None:
-            os.close(self.found)
             os.kill(self.process, signal.SIGKILL)
             os.waitpid(self.process, 0)
-            self.process = None
 
 
 def tell(find, writing):

@@ -170,9 +170,9 @@ class Recount:
 
     def weights(self, period):
         """Each account's weight by the run's own credits."""
-        found = dict.fromkeys(self.results[period], 0)
+        found, units = dict.fromkeys(self.results[period], 0), self.inputs.units
         for unit, party, side, ticks in self.credits[period]:
-            if unit in self.inputs.units and not self.inputs.units[unit].is_interconnector:
+            if unit in units and not units[unit].is_interconnector:
                 found[party, side] = found.get((party, side), 0) + abs(ticks)
         return found
 
