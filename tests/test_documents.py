@@ -1,5 +1,5 @@
-"""Runs the commands of the README, of `examples/` and of the guide, those of each page one after the other in a folder with the
-examples, and compares what they print, word for word. A line of three points means lines that a document leaves out. And each
+"""Runs the commands of the README, of `examples/` and of the guide, and those of `./look` in the README, those of each page one after
+the other in a folder with the examples, and compares what they print, word for word. A line of three points means lines that a document leaves out. And each
 link from page to page leads to a file and a heading."""
 import contextlib
 import csv
@@ -20,6 +20,7 @@ DOCUMENTS = "README.md", "examples/README.md", "docs/guide.md"
 BLOCK = re.compile(r"^```[^\n`]*\n(.*?)^```[ \t]*$", re.MULTILINE | re.DOTALL)
 LINK = re.compile(r"\]\(([^)\s#]*)(?:#([^)\s]*))?\)")
 COMMAND = re.compile(r"\A(?:\./)?settle ([^\n]*)\n\Z")
+LOOK = re.compile(r"\A\./look ([^\n]*)\n\Z")
 
 
 def commands_of(text):
@@ -65,6 +66,17 @@ class Documents(unittest.TestCase):
         """Runs a command. Standard error is appended to standard output."""
         made = subprocess.run([SETTLE, *shlex.split(words)], cwd=self.room, capture_output=True, text=True)
         is_as_printed(self, made.stdout + made.stderr, printed)
+
+    def test_what_look_shows_in_the_readme(self):
+        """After the commands before it."""
+        text = (HOME / "README.md").read_text(encoding="utf-8")
+        blocks = BLOCK.findall(text)
+        (at,) = (place for place, block in enumerate(blocks) if LOOK.match(block))
+        for words, _ in commands_of(text[: text.index(blocks[at])]):
+            subprocess.run([SETTLE, *shlex.split(words)], cwd=self.room, capture_output=True, check=True)
+        words = shlex.split(LOOK.match(blocks[at])[1])
+        made = subprocess.run([HOME / "look", *words], cwd=self.room, capture_output=True, text=True)
+        self.assertEqual((made.stdout, made.stderr), (blocks[at + 1], ""))
 
     def test_the_office_that_the_readme_serves(self):
         """The shell lines that serve the office and ask it, after the commands before them."""

@@ -6,6 +6,7 @@ import os
 import re
 import shutil
 import subprocess
+import sys
 import unittest
 
 from programs import HOME, SETTLE, settle
@@ -588,6 +589,21 @@ class Unread(Explained):
         self.database = self.room / "missing" / "office.db"
         told = answer("refused 91 Store"), [f"{self.database}: {NO_OFFICE}"]
         self.assertEqual(self.by_command("init", "--operator-key", OPERATOR), told)
+
+    def test_a_reader_that_does_nothing(self):
+        """Each command is refused while another process has the file open, as a prompt of `sqlite3` does when it has answered. Once that
+        has ended, commands are answered again."""
+        asks = "import sqlite3, sys; office = sqlite3.connect(f'file:{sys.argv[1]}?mode=ro', uri=True); "
+        asks += "print(office.execute('SELECT count(*) FROM settings').fetchall(), flush=True); sys.stdin.read()"
+        words = [sys.executable, "-c", asks, str(self.database)]
+        with subprocess.Popen(words, stdin=subprocess.PIPE, stdout=subprocess.PIPE) as reader:
+            self.assertEqual(reader.stdout.readline(), b"[(1,)]\n")
+            told = f"refused 91 Store\n{self.database}: {NO_OFFICE}\n".encode()
+            for name, words in self.commands.items():
+                self.assertEqual(self.command(name, "--explain", *words), (1, b"", told), name)
+            reader.stdin.close()
+            reader.wait()
+        self.assertEqual(self.command("report", *self.commands["report"])[0], 0)
 
     def test_scripts(self):
         """The file of a script itself, over a new office and over a database."""

@@ -1,22 +1,22 @@
 """The rows of docs/rules.md: each definition, function, wrong body, test and heading that a row names exists. In
-docs/architecture.md each crate has its row in the table of layers, below the crates that it uses, and each entry that the row
-names exists. Each function in the picture of the way of a file and of a run exists, and the one rule that is followed from end
-to end has what its row says."""
+docs/architecture.md each crate has its row in the table of layers, below the crates that it uses. Each function in the picture of
+the way of a file and of a run exists, and the one rule that is followed from end to end has what its row says."""
 import functools
 import itertools
 import re
 import unittest
 
 from programs import HOME
-from test_promises import clauses_at, texts_of
+from test_promises import clauses_at
 
 PAGE = HOME / "docs" / "architecture.md"
 RULES = HOME / "docs" / "rules.md"
-LAYERS = "| Layer | Crate | Its question | What is proved, by which function or type |"
+LAYERS = "| Layer | Crate | Its question |"
 HEAD = "| Rule | Definition | Code | Wrong body | Test | Stated in |"
 NAME = re.compile(r"`([^`]+)`")
 PATH = re.compile(r"\bhh_\w+(?:::\w+)+")
 LINK = re.compile(r"\]\(([\w.]+)#([\w-]+)\)")
+ROOT = re.compile(r"\[(hh_\w+)\]\(\.\./(crates/(hh_\w+)/src/lib\.rt)\)")
 
 
 def rows_of(text, head=HEAD):
@@ -35,17 +35,6 @@ def text_of(folder, ending):
 def names_of_tests():
     tests = text_of("crates/*/src/**", ".rt") + text_of("tests", ".py")
     return set(re.findall(r"(?:#\[test\]\n\s*fn|\bdef) (\w+)\(", tests))
-
-
-def is_entry(crate, name):
-    """Whether a name is that of a function, type or clause of the crate, or of a crate, or a path that begins with one."""
-    if name.startswith("hh_"):
-        return (HOME / "crates" / name).is_dir() or clauses_at(name) is not None
-    if name == "settle":
-        return (HOME / name).is_file()
-    if "::" in name:
-        return clauses_at(f"{crate}::{name}") is not None
-    return re.search(rf"\b(?:fn|struct|enum|trait|type|ensures) {re.escape(name)}\b", "\n".join(texts_of(crate))) is not None
 
 
 def slug_of(heading):
@@ -68,24 +57,16 @@ class Index(unittest.TestCase):
                 self.check_page(page)
 
     def test_each_crate_has_its_row(self):
-        """Each crate has one row, below the crates on which it depends by crates.txt. Each entry in the row exists."""
+        """Each crate has one row, below the crates on which it depends by crates.txt."""
         depends = dict(re.findall(r"(?m)^(hh_\w+):(.*)$", (HOME / "crates.txt").read_text(encoding="utf-8")))
         self.assertEqual(sorted(depends), sorted(path.parent.name for path in HOME.glob("crates/*/src")))
         rows = list(rows_of(PAGE.read_text(encoding="utf-8"), LAYERS))
-        crates = [crate.strip("`") for _, crate, _, _ in rows]
+        crates = [crate.strip("`") for _, crate, _ in rows]
         self.assertEqual(sorted(depends), sorted(crates))
-        for at, (crate, (_, _, question, proved)) in enumerate(zip(crates, rows)):
+        for at, (crate, (_, _, question)) in enumerate(zip(crates, rows)):
             with self.subTest(crate):
                 self.assertEqual(set(), set(depends[crate].split()) & set(crates[at:]))
                 self.assertRegex(question, r"\?$")
-                self.assertTrue(NAME.findall(proved) or proved.startswith("Nothing: tests alone"), proved)
-                self.assertEqual([], [name for name in NAME.findall(proved) if not is_entry(crate, name)])
-
-    def test_which_entries_exist(self):
-        self.assertTrue(is_entry("hh_rules", "Register::judge_file"))
-        self.assertFalse(is_entry("hh_rules", "Register::apportion"))
-        self.assertTrue(is_entry("hh_sqlrows", "puts"))
-        self.assertFalse(is_entry("hh_num", "puts"))
 
     def test_the_way_of_a_file_and_of_a_run(self):
         """Each function is where its path says, and the picture is short."""
@@ -144,10 +125,14 @@ class Index(unittest.TestCase):
             self.assertIn(name, names_of_tests())
 
     def check_page(self, cell):
-        self.assertTrue(LINK.findall(cell), "no page is named")
+        """A page is named with one of its headings, and a crate with the file whose head is meant."""
+        self.assertTrue(LINK.findall(cell) or ROOT.findall(cell), "no page is named")
         for file, anchor in LINK.findall(cell):
             headings = re.findall(r"(?m)^#+ (.*)$", (HOME / "docs" / file).read_text(encoding="utf-8"))
             self.assertIn(anchor, map(slug_of, headings))
+        for name, file, crate in ROOT.findall(cell):
+            self.assertEqual(name, crate)
+            self.assertTrue((HOME / file).is_file(), file)
 
 
 if __name__ == "__main__":

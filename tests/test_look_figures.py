@@ -5,12 +5,16 @@ import contextlib
 import csv
 import io
 import itertools
+import os
 import random
 import re
 import shutil
+import signal
 import sqlite3
 import subprocess
+import time
 import unittest
+import unittest.mock
 from fractions import Fraction
 
 from looking import Looking, MadeOffice, RandomOffice, changing, look
@@ -20,10 +24,10 @@ from test_settlement import energy
 from test_versions import PRINTED
 from test_worked_periods import FIRST, SECOND, figures, rows_of_files
 
+from look import beside, office, rules
 from look import figures as texts
-from look import office, rules
 
-SEEDS = range(40 if IS_LONG else 6)
+SEEDS = range(40 if IS_LONG else 10)
 # How many numbers are changed in each column, and of how many random offices.
 EACH, OFFICES = (8, 6) if IS_LONG else (2, 1)
 # The columns of numbers from which a statement follows, or which it shows.
@@ -98,9 +102,9 @@ class Rules(unittest.TestCase):
     def test_texts(self):
         for value, digits, text in ((0, 3, "0.000"), (-5, 3, "-0.005"), (12345, 3, "12.345"), (-1, 10, "-0.0000000001")):
             self.assertEqual(texts.decimal(value, digits), text)
-            self.assertEqual(texts.scaled(text, digits), value)
+            self.assertEqual(texts.scaled([text], digits), [value])
         for text, digits, value in (("-0", 3, 0), ("007", 3, 7000), ("-.5".replace(".", "0."), 3, -500), ("1.5", 7, 15_000_000)):
-            self.assertEqual(texts.scaled(text, digits), value)
+            self.assertEqual(texts.scaled([text], digits), [value])
         self.assertEqual([texts.pounds(pence) for pence in (0, -5, 123456, -100)], ["£0.00", "-£0.05", "£1,234.56", "-£1.00"])
         for ticks, text in ((10**7, "0.001"), (-(10**7), "-0.001"), (5 * 10**6, "0.001"), (-5 * 10**6, "-0.001"), (4_999_999, "0.000")):
             self.assertEqual(texts.rounded(ticks), text)
@@ -336,6 +340,62 @@ class AtRandom(Looking):
         self.assertGreater(len(causes), 3)
         for cause in causes:
             self.assertRegex(cause, r"\((f7|f8|f9|f10)\.csv row \d\)$|and \d+ more")
+
+
+class LargeOffice(Looking):
+    """What the tables of a large office have is summed up by processes of their own. Here the example market's counts as large."""
+
+    CHANGED = {
+        "results": "share",
+        "credits": "credited",
+        "meters": "balancing",
+        "prices": "price",
+        "contracts": "kwh",
+        "reallocations": "fixed",
+        "units": "day_from",
+        "parties": "day_from",
+        "postings": "pence",
+    }
+
+    def told(self, database, least):
+        """What is told by some commands, where offices from so many bytes on are large."""
+        asked = [("compare", DAY, "SF", "R1"), ("statement", "CITYSUP-C", DAY, "R1"), ("page", DAY, "R1")]
+        with unittest.mock.patch.object(office, "LARGE", least):
+            return [look(command, "--db", database, *words) for command, *words in asked]
+
+    def test_the_same_is_told(self):
+        """As of a small office: where all follows, and where a number of a table is changed."""
+        database = self.kept("market")
+        told = self.told(database, 0)
+        self.assertEqual(told, self.told(database, 1 << 62))
+        self.assertEqual({status for status, _, _ in told}, {0})
+        for table, column in self.CHANGED.items():
+            with self.subTest(table):
+                with changing(database) as made:
+                    made.execute(f"UPDATE {table} SET {column} = {column} + 1 WHERE rowid = (SELECT max(rowid) FROM {table})")
+                told = self.told(database, 0)
+                self.assertEqual(told, self.told(database, 1 << 62))
+                self.assertIn(1, {status for status, _, _ in told})
+                with changing(database) as made:
+                    made.execute(f"UPDATE {table} SET {column} = {column} - 1 WHERE rowid = (SELECT max(rowid) FROM {table})")
+
+    def test_a_process_that_comes_to_no_end(self):
+        """Nothing is known of it, nothing of it stays, and the rows are looked at one by one."""
+        for find in (lambda: 1 // 0), (lambda: os.kill(os.getpid(), signal.SIGKILL)):
+            self.assertIsNone(beside.Beside(find).result())
+        beside.Beside(lambda: time.sleep(3600)).end()
+        with self.assertRaises(ChildProcessError):
+            os.waitpid(-1, os.WNOHANG)
+        for name, instead in ("tell", lambda *_: os._exit(1)), ("os.fork", unittest.mock.Mock(side_effect=OSError(11, "no process"))):
+            with unittest.mock.patch.object(office, "LARGE", 0), unittest.mock.patch(f"look.beside.{name}", instead):
+                self.assertEqual(look("postings", "--db", self.kept("market"), DAY, "R1")[0], 0)
+
+    def test_sums(self):
+        """The same rows have the same sum, however they were made, and others have another."""
+        rows = [("AB", 1, -(2**62)), ("AB", 0, 300)]
+        self.assertEqual(beside.sum_of(rows), beside.sum_of([("".join("AB"), int("1"), -int(str(2**62))), ("".join("AB"), 0, int("300"))]))
+        others = rows[:1], rows[::-1], [rows[0], ("AB", 0, 301)], [rows[0], ("Ab", 0, 300)], [rows[0], ("A", "B", 0, 300)], []
+        self.assertEqual(len({beside.sum_of(each) for each in (rows, *others)}), 7)
 
 
 class Changed(Looking):

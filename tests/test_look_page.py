@@ -7,6 +7,7 @@ import unittest
 import xml.etree.ElementTree
 
 from looking import Looking, MadeOffice, RandomOffice, changing, look
+from programs import HOME
 from test_desk import DAY
 from test_versions import PRINTED
 
@@ -99,6 +100,11 @@ class Pages(Looking):
         self.assertEqual({mark for mark, _ in page.laws}, {"yes"})
         self.assertEqual(len(page.laws), 7)
 
+    def test_the_page_of_the_example_market(self):
+        """The one to which the README leads is that of R1."""
+        page = self.page(self.kept("market"), DAY, "R1")
+        self.assertEqual((HOME / "examples/market/2024-07-01-R1.html").read_text(encoding="utf-8"), page.text)
+
     def test_the_same_office_gives_the_same_bytes(self):
         pages = [self.page(self.kept("week"), "2024-10-27", "SF").text for _ in range(2)]
         self.assertEqual(*pages)
@@ -153,6 +159,7 @@ class Pages(Looking):
         page = self.page(self.kept("week"), "2024-10-27", "SF")
         self.assertEqual([cells[0] for cells in page.statements["NORTHGEN-P"]], [str(period) for period in range(1, 51)])
         self.assertEqual([cells[1] for cells in page.statements["NORTHGEN-P"]][2:6], ["01:00", "01:30", "01:00", "01:30"])
+        self.assertTrue(page.words[0].startswith("Sunday, on which clocks go back: 50 periods, 8 accounts. "), page.words[0])
 
     def test_one_account(self):
         page = self.page(self.kept("market"), DAY, "R1", "--account", "CITYSUP-C")

@@ -276,6 +276,58 @@ class Check(Asking):
         return f"{draw.choice(units)},{draw.choice(accounts)},{DAY},{period},{draw.choice((10, 45, 70))},{number}"
 
 
+class TenMistakes(Asking):
+    """The ten usual mistakes of `test_mistakes.py`: what `look` says of each is enough to mend it."""
+
+    def told(self, status, *words):
+        """What is told in one text."""
+        found, out, err = look(words[0], "--db", self.database, *words[1:])
+        self.assertEqual(found, status, out + err)
+        return out + err
+
+    def check(self, kind, text, name="new.csv", at=EARLY, status=1):
+        path = self.room / name
+        path.write_text(text)
+        return self.told(status, "check", "--at", at, kind, path)
+
+    def test_each(self):
+        self.database = self.market()
+        meters, prices, contracts = ((MARKET / f"{kind}.csv").read_text() for kind in ("meters", "prices", "contracts"))
+        lines = meters.splitlines()
+        with self.subTest("a wrong header"):
+            self.assertIn("expected unit,date,period,metered_mwh,tlm,balancing_mwh", self.check("meters", meters.replace("metered_mwh", "MWh")))
+        with self.subTest("decimal commas, all of them at once"):
+            rows = [",".join(f'"{field.replace(".", ",")}"' if "." in field else field for field in line.split(",")) for line in lines[1:6]]
+            told = self.check("meters", "\n".join([lines[0], *rows]))
+            self.assertEqual(re.findall(r"(?m)^  row (\d+), line \d+ +14 .*expected a decimal number", told), ["1", "2", "3", "4", "5"])
+        with self.subTest("dates of another order"):
+            told = self.check("prices", prices.replace(DAY, "01/07/2024", 6))
+            self.assertEqual(len(re.findall(r'"01/07/2024"; expected a date YYYY-MM-DD', told)), 6)
+        with self.subTest("a wrong key"):
+            (self.room / "key").write_text("citysupkey1\n")
+            told = self.told(1, "check", "--key-file", self.room / "key", "prices", MARKET / "prices-3.csv")
+            self.assertIn("60 Forbidden: the key that is shown isn't the operator's", told)
+        with self.subTest("a changed file"):
+            told = self.check("contracts", contracts.replace(",33,100.000", ",33,110.000"), "contracts.csv")
+            self.assertIn("was accepted with other bytes; give this one another name", told)
+        with self.subTest("a late contract"):
+            told = self.told(0, "check", "--at", 1_719_824_400, "contracts", MARKET / "contracts-3.csv")
+            self.assertIn("would be accepted: applied=3 late=3\n  late: rows 1 to 3\n", told)
+        with self.subTest("an empty row at the end"):
+            self.assertRegex(self.check("prices", f"{prices.splitlines()[0]}\n{DAY},1,5\n,,\n"), r'row 2, line 3 +14 .*date, is ""')
+        with self.subTest("seller and buyer exchanged"):
+            reference, seller, buyer, *rest = contracts.splitlines()[3].split(",")
+            told = self.check("contracts", f"{contracts.splitlines()[0]}\n{','.join([reference, buyer, seller, *rest])}\n")
+            self.assertIn(f"the first row of reference {reference} has another seller or buyer", told)
+        with self.subTest("a path off by a folder"):
+            self.assertIn("no.csv: No such file or directory", self.told(1, "check", "prices", self.room / "no.csv"))
+        with self.subTest("missing readings"):
+            with contextlib.closing(sqlite3.connect(self.database)) as made, made:
+                made.execute("DELETE FROM meters WHERE unit = '2__SHOPS' AND period = 7 OR unit = 'I_SEALINK' AND period BETWEEN 8 AND 10")
+            told = self.told(0, "missing", DAY)
+            self.assertIn("2__SHOPS (CITYSUP-C): period 7\nI_SEALINK (SEALINK-P): periods 8 to 10\n4 readings are missing\n", told)
+
+
 class Preview(Asking):
     """What a run would answer and post."""
 
@@ -354,7 +406,7 @@ class AtRandom(Asking):
 
     def test_what_is_shown(self):
         """After each part of the list: a date is called ready exactly if the program over a copy doesn't answer 53 or 54, and what is
-        missing first is what it names. All figures of all runs follow."""
+        missing first is what it names. What a preview shows is what the run then answers and posts. All figures of all runs follow."""
         requests = MoreRuns(self.room / "files", 21).draw_all(REQUESTS)
         database = self.room / "office.db"
         self.assertEqual(settle("init", "--db", str(database), "--operator-key", OPERATOR)[0], 0)
@@ -374,10 +426,15 @@ class AtRandom(Asking):
         kinds = office.KINDS[office.KINDS.index(runs[-1]) + 1 :] if runs else office.KINDS
         if not kinds:
             return "no kind"
-        copy = self.copy_of(database)
-        made = settle("run", "--db", str(copy), "--key", OPERATOR, f"--at={after(DATES.index(date))}", date, kinds[0])
+        copy, at = self.copy_of(database), after(DATES.index(date))
+        previewed = look("preview", "--db", database, "--at", at, date, kinds[0])[1].splitlines()
+        made = settle("run", "--db", str(copy), "--key", OPERATOR, f"--at={at}", date, kinds[0])
         answer = (made[1] or made[2]).decode().strip()
         number = re.match(r"refused (\d+)", answer)
+        self.assertEqual(previewed[1], answer)
+        if not number:
+            shown = ("compare", date, runs[-1], kinds[0]) if runs else ("postings", date, kinds[0])
+            self.assertEqual(previewed[3:-1], self.shows(shown[0], "--db", copy, *shown[1:]))
         is_ready = lines[-1] == "nothing is missing"
         self.assertEqual(is_ready, not (number and number[1] in ("53", "54")), (lines, answer))
         if rows:

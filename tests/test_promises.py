@@ -161,7 +161,7 @@ class Promises(unittest.TestCase):
 
     def test_each_name_is_there(self):
         names = set(NAME.findall(PAGE.read_text(encoding="utf-8")))
-        self.assertGreater(len(names), 150)
+        self.assertGreater(len(names), 100)
         self.assertEqual([], sorted(name for name in names if not is_there(name)))
 
     def test_misspelt_names(self):

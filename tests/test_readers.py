@@ -1,4 +1,5 @@
-"""docs/start.md and docs/party.md, the pages for those who are new here and for parties."""
+"""docs/start.md, docs/cheat-sheet.md and docs/glossary.md, the pages for those who are new here, and docs/party.md, the one for
+parties."""
 import os
 import re
 import socket
@@ -14,6 +15,7 @@ from test_program import OfTheProgram
 from look import commands
 
 START = (HOME / "docs/start.md").read_text(encoding="utf-8")
+CHEAT_SHEET = (HOME / "docs/cheat-sheet.md").read_text(encoding="utf-8")
 PARTY = (HOME / "docs/party.md").read_text(encoding="utf-8")
 DAY = "2024-07-01"
 PATIENCE = 120
@@ -52,6 +54,46 @@ class TenMinutes(OfTheProgram):
         self.assertEqual((len(shown), shown.count(None)), (15, 1))
         page = (self.room / "start.html").read_text(encoding="utf-8")
         self.assertTrue(page.startswith("<!DOCTYPE html>") and "NORTHGEN-P" in page, page[:200])
+
+
+class CheatSheet(OfTheProgram):
+    """docs/cheat-sheet.md"""
+
+    def test_each_line(self):
+        """All are typed, with words of the example market in the place of their own. Each does what it says: its status is 0. Those that
+        serve and ask are in docs/start.md."""
+        typed = [line.split("`")[1] for line in CHEAT_SHEET.splitlines() if re.match(r"\| [^|]* \| `(\./|curl)", line)]
+        named = {name: {words.split()[1] for words in typed if words.startswith(f"./{name} ")} for name in ("settle", "look")}
+        self.assertEqual(named, {"settle": {"init", "load", "run", "report", "script", "serve"}, "look": {*commands.COMMANDS}})
+        for name, target in ("settle", SETTLE), ("look", HOME / "look"), ("examples", HOME / "examples"):
+            (self.room / name).symlink_to(target)
+        (self.room / "op.key").write_text("op-market001\n")
+        lines = [words for words in typed if not re.search(r" serve |^curl|--help", words)]
+        self.assertEqual(len(lines), 20)
+        for words in sorted(lines, key=lambda words: (" init " not in words, " script " not in words)):
+            self.ends(words)
+        self.assertTrue((self.room / "run.html").stat().st_size > 10_000 and (self.room / "copy.db").exists())
+
+    def ends(self, words):
+        """A line that is typed ends with 0."""
+        file = "plain.script" if " script " in words else "parties.csv"
+        places = {"SECONDS": "1717405200", "KIND": "parties", "FILE": f"examples/market/{file}", "DATE": DAY, "ACCOUNT": "CITYSUP-C", "PERIOD": "1"}
+        words = re.sub("[A-Z]{4,}", lambda place: places[place[0]], words)
+        how = {"cwd": self.room, "stdin": subprocess.DEVNULL, "capture_output": True, "text": True, "timeout": PATIENCE}
+        made = subprocess.run(["sh", "-c", words], env={**os.environ, "SETTLE_PROGRAM": SETTLE}, **how)
+        self.assertEqual((made.returncode, made.stderr), (0, ""), words)
+
+
+class Glossary(unittest.TestCase):
+    """docs/glossary.md"""
+
+    needs_programs = False
+
+    def test_its_words_are_in_order(self):
+        """Each is there once."""
+        words = re.findall(r"(?m)^\| ([^|]+) \| [^|]+ \|$", (HOME / "docs/glossary.md").read_text(encoding="utf-8"))[1:]
+        self.assertEqual(words, sorted({*words}, key=str.lower))
+        self.assertGreater(len(words), 25)
 
 
 class Party(unittest.TestCase):

@@ -161,6 +161,11 @@ class Found(unittest.TestCase):
 class Lists(unittest.TestCase):
     needs_programs = False
 
+    def test_where_a_rule_is_stated(self):
+        """A heading of a page, or the head of a crate."""
+        self.assertEqual("[market](market.md#rounding)", rules.link_to("market.md#rounding"))
+        self.assertEqual("[hh_day](../crates/hh_day/src/lib.rt)", rules.link_to("hh_day"))
+
     def test_lists_that_are_wrong(self):
         code = rules.Code(rules.CRATES)
         late = ": A late row\n  defined hh_rules/Lateness is_in_time\n  stated market.md#rounding\n  test a\n"

@@ -208,7 +208,8 @@ class Files(unittest.TestCase):
                 pence = int(row["charge"]) + int(row["share"])
                 posted[row["account"]] = posted.get(row["account"], 0) + (pence if row["kind"] == "R1" else -pence)
         guide = (HOME / "docs/guide.md").read_text(encoding="utf-8")
-        found = re.findall(r"(-?[\d,]+)(?: pence)? to ([A-Z]+-[PC])\b", guide[guide.index("### A week") :])
+        (section,) = re.findall(r"^### A week$.*?(?=^##)", guide, re.MULTILINE | re.DOTALL)
+        found = re.findall(r"(-?[\d,]+)(?: pence)? to ([A-Z]+-[PC])\b", section)
         told = {account: int(pence.replace(",", "")) for pence, account in found}
         self.assertEqual(told, {account: pence for account, pence in posted.items() if pence})
 

@@ -6,7 +6,7 @@ usage: tools/rules.py > docs/rules.md
 A line `: A rule` of rules.txt begins a rule. The lines under it, behind blanks, say of it what can't be found:
 
     defined CRATE/FILE NAME ..   definitions of crates/CRATE/specs/FILE.antt, or fields of records there; the line may come again
-    stated PAGE#HEADING          a page of docs/ that states the rule; the line may come again
+    stated PAGE#HEADING          a page of docs/ that states the rule, or CRATE, if the head of its lib.rt does; the line may come again
     wrong NAME ..                wrong bodies; `exact` or `law` in their place says why none is needed
     test NAME ..                 tests
     code [CRATE] NAME ..         functions; without CRATE of the crate of the last definitions
@@ -178,6 +178,11 @@ def found_code(code, rule):
     return naming, turns, bodies
 
 
+def link_to(place):
+    """The link to a heading of a page, or to the head of a crate."""
+    return f"[{place}](../crates/{place}/src/lib.rt)" if "#" not in place else f"[{place.partition('.')[0]}]({place})"
+
+
 def row_of(code, rule):
     """The row of a rule."""
     crate = rule.defined[-1][0].partition("/")[0]
@@ -191,7 +196,7 @@ def row_of(code, rule):
         "; ".join(" ".join(shown) if of == crate else f"`{of}`: {' '.join(shown)}" for of, shown in by_crate.items() if shown),
         " ".join(NO_BODY.get(name) or f"`{name}`" for name in unique([*rule.wrong, *bodies])),
         " ".join(f"`{name}`" for name in rule.test),
-        ", ".join(f"[{page.partition('.')[0]}]({page})" for page in rule.stated),
+        ", ".join(map(link_to, rule.stated)),
     )
     return f"| {' | '.join(cells)} |"
 

@@ -2,6 +2,7 @@
 and back at 01:00 UTC on that of October. No file of zones and no clock is asked."""
 
 import datetime
+import functools
 
 EPOCH = datetime.date(1970, 1, 1)
 FIRST, LAST = 11_323, 47_481  # the days of 2001-01-01 and 2099-12-31
@@ -28,6 +29,7 @@ def weekday_of(day):
     return f"{EPOCH + datetime.timedelta(day):%A}"
 
 
+@functools.cache
 def last_sunday(year, month):
     """The day of the last Sunday of a month of 31 days."""
     end = datetime.date(year, month, 31)
@@ -40,6 +42,7 @@ def is_summer(moment):
     return last_sunday(year, MARCH) * DAY + HOUR <= moment < last_sunday(year, OCTOBER) * DAY + HOUR
 
 
+@functools.cache
 def midnight(day):
     """The second at which a Settlement Day begins."""
     ahead = day * DAY - HOUR

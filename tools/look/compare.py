@@ -1,7 +1,7 @@
 """`look compare`: what changed for each account from one run of a date to another, and because of which rows."""
 
 from . import clock
-from .accepted import METERS, PARTIES, UNITS, cited
+from .accepted import METERS, cited
 from .figures import counted, mwh, pounds
 from .inputs import named, valued
 from .office import KINDS, name_of
@@ -27,7 +27,7 @@ def take_words(command):
 def tell(office, asked):
     """The comparison of two runs of a date."""
     kinds = [office.run(asked.date, kind) for kind in (asked.kind, asked.other)]
-    compared = Compared(Day(office, asked.date), *kinds)
+    compared = Compared(Day(office, asked.date, kinds), *kinds)
     return Told([*compared.lines(), "", *compared.closing()], FAULT if compared.faults() else DONE)
 
 
@@ -115,24 +115,22 @@ def rows_between(one, other):
     """A line for each row of the day that isn't the same for both runs."""
     accepted, places = one.of.accepted, (one.inputs.place, other.inputs.place)
     lines = []
-    for kind, keys in accepted.entries.items():
-        for key, entries in keys.items():
-            if entries[-1].place > min(places):
-                then, now = (next((entry for entry in reversed(entries) if entry.place <= place), None) for place in places)
-                if then is not now and one.matters(kind, then, now):
-                    lines.append((order_of(kind, key), cause(kind, key, then, now)))
+    for kind, key in accepted.keys_after(min(places)):
+        then, now = (accepted.entry(kind, key, place) for place in places)
+        if then != now and one.matters(kind, then, now):
+            lines.append((order_of(kind, key), cause(kind, key, then, now)))
     return [line for _, line in sorted(lines)]
 
 
 def order_of(kind, key):
     """What is registered comes first, and then one period after the other."""
-    return (0, kind, key) if kind in (PARTIES, UNITS) else (key[0], kind, str(key[1]))
+    return (key[0] or 0, kind, str(key[1]))
 
 
 def cause(kind, key, then, now):
     """What a row changed."""
     values = [None if entry is None else entry.value for entry in (then, now)]
     if kind == METERS and None not in values:
-        ticks = [mwh(reading.metered * reading.tlm) for reading in values]
+        ticks = [mwh(metered * tlm) for metered, tlm, _ in values]
         return f"period {key[0]}  {key[1]}: {ticks[0]} -> {ticks[1]} MWh ({cited(now)})"
     return f"{named(kind, key)}: {valued(kind, values[0])} -> {valued(kind, values[1])} ({cited(now) if now else 'taken back'})"

@@ -3,10 +3,10 @@
 KWH, TLM, PERCENT, PRICE = 3, 7, 5, 5  # digits behind the point, in files and in texts
 
 
-def scaled(text, digits):
-    """The whole number of a decimal of an accepted file, with so many digits behind the point."""
-    whole, _, fraction = text.partition(".")
-    return int(whole + fraction.ljust(digits, "0"))  # where a minus stays in front, of 0 too
+def scaled(texts, digits):
+    """The whole number of each decimal of an accepted file, with so many digits behind the point."""
+    # (a minus stays in front, of 0 too)
+    return [int(whole + fraction.ljust(digits, "0")) for text in texts for whole, _, fraction in [text.partition(".")]]
 
 
 def decimal(number, digits):
@@ -21,8 +21,9 @@ def mwh(ticks):
 
 
 def rounded(ticks):
-    """An energy in MWh with three digits, for reading."""
-    return decimal(near(ticks, 10**7), 3)
+    """An energy in MWh with three digits, for reading. It is the nearest; a half goes away from zero."""
+    kwh = (abs(ticks) + 5_000_000) // 10_000_000
+    return f"{'-' if ticks < 0 and kwh else ''}{kwh // 1000}.{kwh % 1000:03}"
 
 
 def pounds(pence):

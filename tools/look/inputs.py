@@ -1,9 +1,10 @@
 """What a run is settled from: what is registered and in force for a day after the files up to some place."""
 
+import collections
 import copy
 
 from . import clock, rules
-from .accepted import CONTRACTS, METERS, PARTIES, PRICES, READ, REALLOCATIONS, UNITS
+from .accepted import CONTRACTS, METERS, PARTIES, PRICES, READ, REALLOCATIONS, REGISTERED, UNITS
 from .figures import KWH, PERCENT, TLM, decimal, per_mwh
 from .office import name_of
 
@@ -15,40 +16,37 @@ class Inputs:
 
     def __init__(self, accepted):
         self.accepted, self.day = accepted, accepted.day
-        self.place = max(accepted.changes, default=0)
-        periods = range(1, clock.count(self.day) + 1) if accepted.period is None else [accepted.period]
-        self.values = {kind: {period: {} for period in periods} for kind in OF_DAY}
-        for kind in OF_DAY:
-            held = self.values[kind]
-            for (period, key), value in accepted.in_force(kind).items():
-                held.setdefault(period, {})[key] = value
-        self.parties, self.units = dict(accepted.in_force(PARTIES)), dict(accepted.in_force(UNITS))
+        self.place = max(accepted.files, default=0)
+        self.values = {kind: accepted.in_force(kind) for kind in (*READ, *REGISTERED)}
 
     def copy(self):
         """The same rows, which may be taken back apart from these."""
         other = copy.copy(self)
-        other.values = {kind: {period: dict(held) for period, held in periods.items()} for kind, periods in self.values.items()}
-        other.parties, other.units = dict(self.parties), dict(self.units)
+        other.values = {kind: held_apart(periods) for kind, periods in self.values.items()}
         return other
 
     def take_back(self, place):
-        """Takes back what the file at a place changed. Returns the periods that this concerns."""
-        changes = self.accepted.changes[place]
-        for (kind, key), before in changes.items():
-            held, key = self.held(kind, key)
-            if before is None:
-                held.pop(key)
+        """Takes back what the file at a place changed. Returns the periods that this concerns, in which None stands for all."""
+        file = self.accepted.files[place]
+        before, held, concerned = self.accepted.in_force(file.kind, place), self.values[file.kind], set()
+        for period, key, value in file.rows():
+            old = before[period].get(key)
+            if old != value:
+                concerned.add(period)
+            if old is None:
+                held[period].pop(key, None)
             else:
-                held[key] = before.value
-        self.place = max((other for other in self.accepted.changes if other < place), default=0)
-        periods = {key[0] for kind, key in changes if kind in OF_DAY}
-        return periods or set(self.values[METERS])  # a party or a unit concerns all
+                held[period][key] = old
+        self.place = max((other for other in self.accepted.files if other < place), default=0)
+        return concerned
 
-    def held(self, kind, key):
-        """The rows among which a key is, and what it is called there."""
-        if kind in OF_DAY:
-            return self.values[kind][key[0]], key[1]
-        return (self.parties if kind == PARTIES else self.units), key
+    @property
+    def parties(self):
+        return self.values[PARTIES][None]
+
+    @property
+    def units(self):
+        return {name: rules.Unit._make(row) for name, row in self.values[UNITS][None].items()}
 
     def accounts(self):
         """The accounts of the day, in their order."""
@@ -61,20 +59,24 @@ class Inputs:
     def given(self, period):
         """The reallocations of a period, by unit and account."""
         found = {}
-        for (unit, account), part in self.values[REALLOCATIONS].get(period, {}).items():
+        for (unit, account), part in self.values[REALLOCATIONS][period].items():
             found.setdefault(unit, {})[account] = part
         return found
 
     def contracts(self, period):
         """Each reference with its seller, its buyer and its volume, in the order of references."""
-        held = self.values[CONTRACTS].get(period, {})
-        return [(reference, *held[reference][:2], held[reference][2]) for reference in sorted(held)]
+        return [(reference, *row) for reference, row in sorted(self.values[CONTRACTS][period].items())]
+
+    def readings(self, period):
+        """The metered volume, the multiplier and the balancing volume by unit."""
+        return self.values[METERS][period]
 
     def reading(self, period, unit):
-        return self.values[METERS].get(period, {}).get(unit)
+        row = self.readings(period).get(unit)
+        return None if row is None else rules.Reading._make(row)
 
     def price(self, period):
-        return self.values[PRICES].get(period, {}).get(None)
+        return self.values[PRICES][period].get(None)
 
     def settled(self, periods):
         """What each of these periods settles to, by its number."""
@@ -83,7 +85,7 @@ class Inputs:
             period: rules.settle(
                 accounts,
                 units,
-                self.values[METERS][period],
+                self.readings(period),
                 self.given(period),
                 self.values[CONTRACTS][period].values(),
                 self.price(period),
@@ -92,11 +94,16 @@ class Inputs:
         }
 
 
+def held_apart(periods):
+    """The same values by period and key, in dictionaries of their own."""
+    return collections.defaultdict(dict, {period: dict(held) for period, held in periods.items()})
+
+
 def named(kind, key):
     """What a key is of."""
-    if kind in (PARTIES, UNITS):
-        return f"{'party' if kind == PARTIES else 'unit'} {key}"
     period, key = key
+    if kind in REGISTERED:
+        return f"{'party' if kind == PARTIES else 'unit'} {key}"
     if kind == PRICES:
         return f"the price of period {period}"
     if kind == REALLOCATIONS:
@@ -122,8 +129,9 @@ def valued(kind, value):
         return f"{decimal(value[0], PERCENT)} % and {decimal(value[1], KWH)} MWh"
     if kind == PARTIES:
         return " to ".join(map(date_or_number, value))
-    mark = ", interconnector" if value.is_interconnector else ""
-    return f"{name_of(value.lead)}{mark}, {date_or_number(value.first)} to {date_or_number(value.last)}"
+    lead, is_interconnector, *days = value
+    mark = ", interconnector" if is_interconnector else ""
+    return f"{name_of(lead)}{mark}, {' to '.join(map(date_or_number, days))}"
 
 
 def date_or_number(day):

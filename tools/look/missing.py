@@ -15,7 +15,7 @@ def take_words(command):
 def tell(office, asked):
     """A line for the prices and for each unit that lack some, and what a run would name."""
     day, periods = asked.date, range(1, clock.count(asked.date) + 1)
-    held = office.prices(day)
+    held = dict(office.prices(day))
     prices = [period for period in periods if period not in held]
     held = set(office.rows("SELECT unit, period FROM meters WHERE day = ?", day))
     units = {name: unit for name, unit in office.units().items() if unit.first <= day <= unit.last}

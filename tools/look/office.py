@@ -3,14 +3,17 @@
 import collections
 import contextlib
 import functools
+import os
 import sqlite3
 
 from . import clock
+from .beside import Beside
 from .copying import copied
-from .rules import Figures, Unit
+from .rules import Unit
 from .telling import Fault
 
 VERSION = 1  # of the tables that are read here
+LARGE = 1 << 22  # bytes of an office's file
 KINDS = ("SF", "R1", "R2", "R3", "RF", "DF")
 SIDES = "PC"
 
@@ -45,14 +48,16 @@ def opened(path):
 @contextlib.contextmanager
 def opened_copy(copy, path):
     """The office in a copy. Rows that no office writes are a fault of the file."""
-    connection = None
+    connection, works = None, []
     try:
         connection = sqlite3.connect(copy, isolation_level=None)
         connection.execute("PRAGMA query_only = ON")
-        yield Office(connection, path, copy)
+        yield Office(connection, path, copy, works)
     except sqlite3.Error as error:
         raise Fault(f"{path}: it can't be read as an office's file: {error}") from None
     finally:
+        for work in works:
+            work.end()
         if connection is not None:
             connection.close()
 
@@ -60,9 +65,23 @@ def opened_copy(copy, path):
 class Office:
     """The rows of an office."""
 
-    def __init__(self, connection, path, copy):
-        self.connection, self.path, self.copy = connection, path, copy
+    def __init__(self, connection, path, copy, works):
+        self.connection, self.path, self.copy, self.works = connection, path, copy, works
         self.lead_minutes = self.settings()
+
+    def beside(self, find):
+        """What `find` gives of the same copy, which a process of its own opens."""
+
+        def find_alone():
+            with opened_copy(self.copy, self.path) as alone:
+                return find(alone)
+
+        self.works.append(Beside(find_alone))
+        return self.works[-1]
+
+    def is_large(self):
+        """Whether work is worth a process of its own."""
+        return os.path.getsize(self.copy) >= LARGE
 
     def settings(self):
         """The lead time of an office whose tables are of the version that is read here."""
@@ -120,25 +139,23 @@ class Office:
         rows = self.rows("SELECT reference, seller, seller_side, buyer, buyer_side FROM refs")
         return {reference: (self.account(*row[:2]), self.account(*row[2:])) for reference, *row in rows}
 
-    # What is in force for a day
+    # What is in force for a day, a row for each
 
     def readings(self, day, period=None):
-        """The metered volume, the multiplier and the balancing volume by period and unit."""
-        rows = self.of_day("meters", "period, unit, metered, tlm, balancing", day, period)
-        return {(number, unit): (metered, tlm, balancing) for number, unit, metered, tlm, balancing in rows}
+        """A period, a unit, its metered volume, the multiplier and the balancing volume."""
+        return self.of_day("meters", "period, unit, metered, tlm, balancing", day, period)
 
     def prices(self, day, period=None):
-        return dict(self.of_day("prices", "period, price", day, period))
+        """A period and its price."""
+        return self.of_day("prices", "period, price", day, period)
 
     def contracts(self, day, period=None):
-        """Volumes by period and reference."""
-        rows = self.of_day("contracts", "period, reference, kwh", day, period)
-        return {(number, reference): kwh for number, reference, kwh in rows}
+        """A period, a reference and its volume."""
+        return self.of_day("contracts", "period, reference, kwh", day, period)
 
     def reallocations(self, day, period=None):
-        """Percentages and fixed volumes by period, unit and account."""
-        rows = self.of_day("reallocations", "period, unit, party, side, percent, fixed", day, period)
-        return {(number, unit, self.account(party, side)): tuple(part) for number, unit, party, side, *part in rows}
+        """A period, a unit, the party and the side of an account, the percentage and the fixed volume."""
+        return self.of_day("reallocations", "period, unit, party, side, percent, fixed", day, period)
 
     def of_day(self, table, columns, day, period):
         """The rows of a day in a table, or those of one period."""
@@ -163,26 +180,23 @@ class Office:
             raise Fault(f"{self.path}: {clock.date_of(day)} has no run {KINDS[kind]}; it has {', '.join(KINDS[k] for k in kinds)}")
         return kind
 
-    def results(self, day, kind, period=None):
-        """A run's figures by period and then by account, in the order of accounts."""
-        rows = self.of_run("results", "party, side, credited, balancing, contracts, imbalance, charge, share", day, kind, period)
-        found = {}
-        for row in rows:
-            found.setdefault(row[0], {})[self.account(row[1], row[2])] = Figures._make(row[3:])
-        return found
+    def periods_of(self, day, kind):
+        """The periods of which a run has kept something, in their order."""
+        each = " UNION ".join(f"SELECT period FROM {table} WHERE day = ?1 AND kind = ?2" for table in ("results", "credits"))
+        return [period for (period,) in self.rows(f"{each} ORDER BY period", day, kind)]
 
-    def credits(self, day, kind, period=None):
-        """A run's credits by period, then by unit, then by account."""
-        found = {}
-        for number, unit, party, side, ticks in self.of_run("credits", "unit, party, side, credited", day, kind, period):
-            found.setdefault(number, {}).setdefault(unit, {})[self.account(party, side)] = ticks
-        return found
+    def results(self, day, kind, period):
+        """A party, a side and the figures of that account, a row for each account of a period, in the order of accounts."""
+        figures = "credited, balancing, contracts, imbalance, charge, share"
+        return self.of_run("results", f"party, side, {figures}", "party, side", day, kind, period)
 
-    def of_run(self, table, columns, day, kind, period):
-        """The rows of a run in a table, in the order of their keys."""
-        asked, values = ("", ()) if period is None else (" AND period = ?", (period,))
-        key = "period, party, side" if table == "results" else "period, unit, party, side"
-        return self.rows(f"SELECT period, {columns} FROM {table} WHERE day = ? AND kind = ?{asked} ORDER BY {key}", day, kind, *values)
+    def credits(self, day, kind, period):
+        """A unit, a party, a side and what that account is credited of the unit, a row for each of them, in their order."""
+        return self.of_run("credits", "unit, party, side, credited", "unit, party, side", day, kind, period)
+
+    def of_run(self, table, columns, order, day, kind, period):
+        """The rows of a period of a run in a table."""
+        return self.rows(f"SELECT {columns} FROM {table} WHERE day = ? AND kind = ? AND period = ? ORDER BY {order}", day, kind, period)
 
     def postings(self, day, kind):
         """What a run posted, by account."""

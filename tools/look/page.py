@@ -1,16 +1,17 @@
 """`look page`: a run as one page in HTML to read, to print and to keep. It has no script and asks for nothing from the net, and what it
 shows is recomputed when it is written."""
 
+import functools
 import html
 
 from . import clock
 from .figures import counted, decimal, near, pounds, rounded
 from .office import KINDS, name_of
 from .picture import LONG, SHORT, drawn
-from .postings import Posted
-from .recount import Day
+from .postings import posted_by
 from .statement import account_is_there
 from .telling import DONE, FAULT, Fault, Told
+from .when import kind_of_day
 from .words import account, takes_date, takes_kind, takes_office
 
 STYLE = f"""
@@ -23,10 +24,11 @@ ul{{list-style:none;padding:0}} .no{{color:#b00020}} .yes b{{color:#00632e}} a{{
 .long{{color:{LONG}}} .short{{color:{SHORT}}} svg{{max-width:100%;height:auto}}
 .fold{{position:absolute;opacity:0}} .fold+label{{cursor:pointer;display:block;padding:.2em 0}}
 .fold+label::before{{content:"▸ "}} .fold:checked+label::before{{content:"▾ "}}
-.fold:focus+label{{outline:1px dotted}} .fold~.of{{display:none}} .fold:checked~.of{{display:table}}
+.fold:focus+label{{outline:1px dotted}} .fold~.of{{display:none}} .fold:checked~.of{{display:table;margin-bottom:1em}}
+.of th:first-child,.of td:first-child{{text-align:right}}
 @media print{{
 body{{max-width:none;font-size:10px}} section{{break-inside:avoid}}
-.fold~.of{{display:table}} .fold+label::before{{content:""}}
+.fold~.of{{display:table}} .fold+label::before{{content:""}} .fold+label{{margin-top:1.5em;font-weight:bold}}
 }}
 """
 POLICY = "default-src 'none'; style-src 'unsafe-inline'"
@@ -47,7 +49,7 @@ def tell(office, asked):
     kind = office.run(asked.date, asked.kind)
     if asked.account is not None:
         account_is_there(office, asked.account)
-    posted = Posted(Day(office, asked.date), kind)
+    posted = posted_by(office, asked.date, kind)
     page = Page(posted, asked.account)
     return Told(page.lines(), FAULT if posted.faults() else DONE, posted.closing() if posted.faults() else ())
 
@@ -92,7 +94,7 @@ class Page:
             f'<meta http-equiv="Content-Security-Policy" content="{POLICY}"/>',
             f'<meta name="viewport" content="width=device-width"/><title>{title}</title><style>{STYLE}</style></head><body>',
             f"<h1>{title}</h1>",
-            f"<p>{clock.weekday_of(self.posted.day)}: {counts}. {residual}</p>",
+            f"<p>{clock.weekday_of(self.posted.day)}{kind_of_day(self.posted.day)}: {counts}. {residual}</p>",
             *self.laws(),
             *self.accounts(),
             *self.field(),
@@ -129,12 +131,15 @@ class Page:
 
     def field(self):
         """The picture of the imbalances."""
-        told = '<p>In MWh, all on one scale: <b class="long">long</b> above the line, <b class="short">short</b> below it.</p>'
+        told = (
+            '<p>In MWh, all on one scale: <b class="long">long</b> above the line, <b class="short">short</b> below it. At the right '
+            "are the sums of both over the day. The residual, in pounds, has a scale of its own.</p>"
+        )
         return ["<h2>Imbalances by period</h2>", told, *drawn(self.posted.day, self.by_account, self.recount)]
 
     def statements(self):
         """Each account's periods, which are folded on the screen and printed open."""
-        lines = ["<h2>Statements</h2>"]
+        lines = ["<h2>Statements</h2>", "<p>Energies are in MWh, and prices in pounds per MWh.</p>"]
         for one, rows in self.by_account.items():
             if self.alone in (None, one) and any(any(row) for row in rows.values()):
                 lines += self.statement(one, rows)
@@ -147,12 +152,16 @@ class Page:
         yield f'<section id="{name}"><input class="fold" type="checkbox" id="of-{name}"{is_open}/><label for="of-{name}">{told}</label>'
         yield f'<table class="of">{row_of(OF_PERIODS, "th")}'
         for period, row in rows.items():
-            price = self.recount.inputs.price(period)
-            shown = "" if price is None else figure(decimal(near(price, 1000), 2))
-            energy = (figure(rounded(ticks)) for ticks in row[:4])
-            cash = (figure(pounds(pence)) for pence in (row.charge, row.share, row.charge + row.share))
-            yield row_of([period, clock.wall_clock(clock.start(self.posted.day, period)), *energy, shown, *cash])
+            begins, price = self.shown(period)
+            cells = [str(period), begins, *map(rounded, row[:4]), price, *map(pounds, (row.charge, row.share, row.charge + row.share))]
+            yield figure(f"<tr><td>{'</td><td>'.join(cells)}</td></tr>")
         yield "</table></section>"
+
+    @functools.cache
+    def shown(self, period):
+        """When a period begins, and its price."""
+        price = self.recount.inputs.price(period)
+        return clock.wall_clock(clock.start(self.posted.day, period)), "" if price is None else decimal(near(price, 1000), 2)
 
 
 def laws_of(posted):
@@ -178,9 +187,10 @@ def laws_of(posted):
 
 def are_whole(recount):
     """Whether the credits of each unit sum to what it has metered, times its multiplier."""
-    for period, units in recount.credits.items():
-        for unit, credits in units.items():
-            reading = recount.inputs.reading(period, unit)
-            if reading is None or sum(credits.values()) != reading.metered * reading.tlm:
-                return False
+    for period, credits in recount.credits.items():
+        sums, readings = {}, recount.inputs.readings(period)
+        for unit, _, _, ticks in credits:
+            sums[unit] = sums.get(unit, 0) + ticks
+        if sums != {unit: metered * tlm for unit, (metered, tlm, _) in readings.items() if unit in sums}:
+            return False
     return True

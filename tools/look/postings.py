@@ -1,5 +1,7 @@
 """`look postings`: what a run posted to whom, as a table, as CSV or as a journal of a ledger."""
 
+import functools
+
 from . import clock
 from .figures import pounds
 from .office import KINDS, SIDES, name_of
@@ -23,7 +25,7 @@ def take_words(command):
 def tell(office, asked):
     """The postings, and whether each is the new day net less the old one."""
     kind = office.run(asked.date, asked.kind)
-    posted = Posted(Day(office, asked.date), kind)
+    posted = posted_by(office, asked.date, kind)
     closing = posted.closing()
     status = FAULT if posted.faults() else DONE
     if asked.csv:
@@ -31,6 +33,11 @@ def tell(office, asked):
     if asked.hledger:
         return Told(posted.journal(), status, closing)
     return Told([*posted.table(), "", *closing], status)
+
+
+def posted_by(office, day, kind):
+    """What a run of a day posted."""
+    return Posted(Day(office, day, [other for other in office.runs(day) if other <= kind][-2:]), kind)
 
 
 class Posted:
@@ -81,6 +88,7 @@ class Posted:
         before = [f"{KINDS[self.before.kind]}: {differs(one)}" for one in self.before.differences] if self.before else []
         return [*self.recount.faults(), *before, *self.departures()]
 
+    @functools.cache
     def departures(self):
         """A line for each posting that isn't the change of the net, and for a row of the run that isn't what the run has."""
         lines = []

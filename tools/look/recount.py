@@ -4,13 +4,17 @@ The office doesn't keep which files were there when a run was made. So the files
 until all figures follow. A run of before a correction follows from the rows that were in force before it."""
 
 import collections
+import functools
 
 from . import clock
 from .accepted import Accepted, cited
+from .beside import sum_of
 from .figures import mwh, pounds
 from .inputs import OF_DAY, Inputs, named, valued
 from .office import KINDS, name_of
+from .rules import Figures
 from .tables import departures
+from .tables import sums_of as tables_sums
 
 # A figure that a run has kept, and the one that follows. None where there is none.
 Difference = collections.namedtuple("Difference", "period whose what kept follows")
@@ -21,45 +25,97 @@ MOST = 10  # lines of a list
 
 
 class Day:
-    """What the accepted files say of a day, or of one period of it, and whether the tables say the same."""
+    """What the accepted files say of a day, or of one period of it, and whether the tables say the same. Which runs will be asked for
+    may be said at once, so that what they have kept is read meanwhile."""
 
-    def __init__(self, office, day, period=None):
+    def __init__(self, office, day, kinds=(), period=None):
         self.office, self.day, self.period = office, day, period
+        is_large = period is None and office.is_large()
+        tables = office.beside(lambda alone: tables_sums(alone, day)) if is_large else None
+        self.kept = {kind: office.beside(functools.partial(kept_sums, day, kind)) for kind in kinds} if is_large else {}
         self.accepted = Accepted(office, day, period)
-        self.departures = departures(office, self.accepted)
-        self.periods = range(1, clock.count(day) + 1) if period is None else [period]
-        self.recounts = {}
         self.inputs = Inputs(self.accepted)
+        self.periods = range(1, clock.count(day) + 1) if period is None else [period]
         self.settled = self.inputs.settled(self.periods)
+        self.departures = departures(office, self.inputs, tables and tables.result())
+        self.recounts = {}
 
     def recount(self, kind):
         """A run of the day, counted once."""
         if kind not in self.recounts:
-            self.recounts[kind] = Recount(self, kind)
+            self.recounts[kind] = Recount(self, kind, self.kept[kind].result() if kind in self.kept else None)
         return self.recounts[kind]
 
 
-class Recount:
-    """A run of a day, or one of its periods, with the inputs from which its figures follow, if they do."""
+def recounted(office, day, kind, period=None):
+    """A run of a day, or one of its periods."""
+    return Day(office, day, [kind], period).recount(kind)
 
-    def __init__(self, of, kind):
-        self.of, self.office, self.day, self.kind = of, of.office, of.day, kind
-        self.results = self.office.results(self.day, kind, of.period)
-        self.credits = self.office.credits(self.day, kind, of.period)
+
+def kept_sums(day, kind, office):
+    """The sums of what a run has kept of each period."""
+    return {period: tuple(map(sum_of, kept_rows(office, day, kind, period))) for period in office.periods_of(day, kind)}
+
+
+def kept_rows(office, day, kind, period):
+    """What a run has kept of a period: the rows of its accounts, and those of its credits."""
+    return office.results(day, kind, period), office.credits(day, kind, period)
+
+
+class Recount:
+    """A run of a day, or one of its periods, with the inputs from which its figures follow, if they do. `sums` are those of what it has
+    kept, if they are known."""
+
+    def __init__(self, of, kind, sums):
+        self.of, self.office, self.day, self.kind, self.sums = of, of.office, of.day, kind, sums
+        self.rows = {}
         self.inputs, self.settled, found = self.nearest()
         self.differences = [difference for period in sorted(found) for difference in found[period]]
+        self.results, self.credits = {}, {}
+        for period in found:
+            self.results[period], self.credits[period] = self.kept_of(period)
         self.replaced = self.later_rows()
+
+    def all_periods(self):
+        """The periods of the day and those of the run, which are the same in an office that nobody has changed."""
+        kept = self.sums if self.sums is not None else self.office.periods_of(self.day, self.kind) if self.of.period is None else ()
+        return sorted({*self.of.periods, *kept})
+
+    def kept(self, period):
+        """The rows of a period."""
+        if period not in self.rows:
+            self.rows[period] = kept_rows(self.office, self.day, self.kind, period)
+        return self.rows[period]
+
+    def is_same(self, period, settled):
+        """Whether the rows of a period are those to which it settles."""
+        if self.sums is not None:
+            return self.sums.get(period) == settled.sums
+        return self.kept(period) == settled.rows
+
+    def kept_of(self, period):
+        """A period's figures by account, in the order of accounts, and its credits."""
+        settled = self.settled.get(period)
+        if settled is not None and self.is_same(period, settled):
+            return settled.figures, settled.credits
+        figures, credits = self.kept(period)
+        return self.by_account(figures), credits
+
+    def by_account(self, rows):
+        return {self.office.account(party, side): Figures._make(row) for party, side, *row in rows}
 
     def nearest(self):
         """The inputs from which most figures follow, the latest of them; what they settle to, and the differences by period."""
-        inputs, settled = self.of.inputs.copy(), self.of.settled
+        inputs, settled = self.of.inputs, self.of.settled
         found = {period: self.compared(period, settled.get(period)) for period in self.all_periods()}
         best = None
-        for place in sorted(self.of.accepted.changes, reverse=True):
+        for place in sorted(self.of.accepted.files, reverse=True):
             best = self.better(best, place, settled, found)
             if not best[0]:
                 break
-            affected = inputs.take_back(place)
+            inputs = inputs.copy() if inputs is self.of.inputs else inputs
+            concerned = inputs.take_back(place)
+            affected = self.of.periods if None in concerned else concerned
             changed = inputs.settled(affected)
             settled = {**settled, **changed}
             found = {**found, **{period: self.compared(period, changed[period]) for period in affected}}
@@ -75,40 +131,37 @@ class Recount:
     def inputs_at(self, place):
         """What was in force after the file at a place."""
         inputs = self.of.inputs.copy()
-        for later in sorted((other for other in self.of.accepted.changes if other > place), reverse=True):
+        for later in sorted((other for other in self.of.accepted.files if other > place), reverse=True):
             inputs.take_back(later)
         return inputs
 
-    def all_periods(self):
-        """The periods of the day and those of the run, which are the same in an office that nobody has changed."""
-        return sorted({*self.of.periods, *self.results, *self.credits})
-
     def compared(self, period, settled):
         """The differences between what the run has kept of a period, and what it settles to."""
-        figures, credits = self.results.get(period, {}), self.credits.get(period, {})
+        if settled is not None and self.is_same(period, settled):
+            return []
+        figures, credits = self.kept(period)
         if settled is None:
-            return [Difference(period, name_of(account), "figures", kept, None) for account, kept in figures.items()] or [
+            return [Difference(period, name_of(row[:2]), "figures", row, None) for row in figures] or [
                 Difference(period, "period", "inputs", None, None)
             ]
-        if figures == settled.figures and credits == settled.credits:
-            return []
-        return [*figure_differences(period, figures, settled.figures), *credit_differences(period, credits, settled.credits)]
+        return [
+            *figure_differences(period, self.by_account(figures), settled.figures),
+            *credit_differences(period, credits, settled.credits),
+        ]
 
     def later_rows(self):
         """The rows that the run used and that have been replaced by others since."""
-        found = []
-        for kind in self.of.accepted.entries:
-            for key, entries in self.of.accepted.entries[kind].items():
-                if entries[-1].place > self.inputs.place:
-                    then = next((entry for entry in reversed(entries) if entry.place <= self.inputs.place), None)
-                    if self.matters(kind, then, entries[-1]):
-                        found.append(Replaced(kind, key, then, entries[-1]))
+        accepted, found = self.of.accepted, []
+        for kind, key in accepted.keys_after(self.inputs.place):
+            then, now = accepted.entry(kind, key, self.inputs.place), accepted.entry(kind, key)
+            if self.matters(kind, then, now):
+                found.append(Replaced(kind, key, then, now))
         return sorted(found, key=lambda one: (one.now.place, one.now.row))
 
     def matters(self, kind, then, now):
-        """Whether a row that has come since says something else of the day."""
+        """Whether two rows in force under a key, each of which may be none, say something else of the day."""
         if kind in OF_DAY:
-            return then is None or then.value != now.value
+            return then is None or now is None or then.value != now.value
         return is_there(then, self.day) != is_there(now, self.day)
 
     def residual(self, period):
@@ -117,11 +170,10 @@ class Recount:
 
     def weights(self, period):
         """Each account's weight by the run's own credits."""
-        found = dict.fromkeys(self.results[period], 0)
-        for unit, credits in self.credits.get(period, {}).items():
-            if unit in self.inputs.units and not self.inputs.units[unit].is_interconnector:
-                for account, ticks in credits.items():
-                    found[account] = found.get(account, 0) + abs(ticks)
+        found, units = dict.fromkeys(self.results[period], 0), self.inputs.units
+        for unit, party, side, ticks in self.credits[period]:
+            if unit in units and not units[unit].is_interconnector:
+                found[party, side] = found.get((party, side), 0) + abs(ticks)
         return found
 
     def nets(self):
@@ -172,12 +224,11 @@ def figure_differences(period, kept, follows):
 
 
 def credit_differences(period, kept, follows):
-    for unit in sorted(kept.keys() | follows.keys()):
-        one, other = kept.get(unit, {}), follows.get(unit, {})
-        for account in sorted(one.keys() | other.keys()):
-            if one.get(account) != other.get(account):
-                whose = f"{unit} to {name_of(account)}"
-                yield Difference(period, whose, "credit", one.get(account), other.get(account))
+    one, other = ({tuple(key): ticks for *key, ticks in rows} for rows in (kept, follows))
+    for unit, party, side in sorted(one.keys() | other.keys()):
+        ticks = [credits.get((unit, party, side)) for credits in (one, other)]
+        if ticks[0] != ticks[1]:
+            yield Difference(period, f"{unit} to {name_of((party, side))}", "credit", *ticks)
 
 
 def differs(difference):

@@ -3,7 +3,7 @@
 from . import clock
 from .figures import PRICE, decimal, mwh, near, pounds, rounded
 from .office import KINDS, name_of
-from .recount import Day, concluded
+from .recount import concluded, recounted
 from .telling import DONE, FAULT, Fault, Told, WrongWords
 from .texts import table
 from .words import date, kind_or, taken, takes_account, takes_date, takes_office
@@ -34,48 +34,54 @@ def judge(asked):
 def tell(office, asked):
     """The statement of a date, or of the dates from one to another."""
     account_is_there(office, asked.account)
-    recounts = of_dates(office, asked)
-    rows = [of_account(recount, asked.account) for recount in recounts]
-    status = FAULT if any(recount.faults() for recount in recounts) else DONE
-    closing = closing_of(recounts)
+    dates = [OfDate(recounted(office, day, kind), asked) for day, kind in runs_of(office, asked)]
+    status = FAULT if any(date.faults for date in dates) else DONE
     if asked.csv:
-        lines = [line for recount, of in zip(recounts, rows) for line in csv_lines(recount, asked.account, of)]
-        return Told([CSV, *lines], status, closing)
+        return Told([CSV, *(line for date in dates for line in date.lines)], status, closing_of(dates))
+    lines = of_range(dates, asked.account) if asked.last is not None else dates[0].lines
+    return Told([*lines, "", *closing_of(dates)], status)
+
+
+def runs_of(office, asked):
+    """The day and the kind of each run that is asked for. In a range dates without such a run are left out."""
     if asked.last is None:
-        return Told([*of_date(recounts[0], asked.account, rows[0]), "", *closing], status)
-    return Told([*of_range(recounts, asked.account, rows), "", *closing], status)
+        return [(asked.date, office.run(asked.date, asked.kind))]
+    days = [day for (day,) in office.rows("SELECT DISTINCT day FROM runs WHERE day BETWEEN ? AND ? ORDER BY day", asked.date, asked.last)]
+    kinds = {day: list(office.runs(day)) for day in days}
+    found = [(day, kinds[day][-1] if asked.kind is None else asked.kind) for day in days if asked.kind is None or asked.kind in kinds[day]]
+    if not found:
+        raise Fault(f"{office.path}: no date from {clock.date_of(asked.date)} to {clock.date_of(asked.last)} has such a run")
+    return found
 
 
-def closing_of(recounts):
+class OfDate:
+    """What is told of a date. The run's other rows don't stay, since a range may have many dates."""
+
+    def __init__(self, recount, asked):
+        self.date, self.kind, rows = clock.date_of(recount.day), KINDS[recount.kind], of_account(recount, asked.account)
+        self.sums = sums_of(rows.values())
+        self.lines = []
+        if asked.csv:
+            self.lines = list(csv_lines(recount, asked.account, rows))
+        elif asked.last is None:
+            self.lines = of_periods(recount, asked.account, rows)
+        self.since, self.faults, self.closing = recount.since(), recount.faults(), recount.closing()
+
+
+def closing_of(dates):
     """Whether all follows, of one run or of several."""
-    if len(recounts) == 1:
-        return recounts[0].closing()
+    if len(dates) == 1:
+        return dates[0].closing
     lines, faults = [], []
-    for recount in recounts:
-        date = clock.date_of(recount.day)
-        lines += [f"{date}: {line}" if at == 0 else line for at, line in enumerate(recount.since())]
-        faults += [f"{date} {KINDS[recount.kind]}: {fault}" for fault in recount.faults()]
+    for one in dates:
+        lines += [f"{one.date}: {line}" if at == 0 else line for at, line in enumerate(one.since)]
+        faults += [f"{one.date} {one.kind}: {fault}" for fault in one.faults]
     return [*lines, *concluded(faults, "All figures follow from the rows that the runs used.")]
 
 
 def account_is_there(office, account):
     if account[0] not in office.parties():
         raise Fault(f"{office.path}: there is no account {name_of(account)}: no party {account[0]} is registered")
-
-
-def of_dates(office, asked):
-    """The runs that are asked for. In a range dates without a run are left out."""
-    if asked.last is None:
-        return [Day(office, asked.date).recount(office.run(asked.date, asked.kind))]
-    days = [day for (day,) in office.rows("SELECT DISTINCT day FROM runs WHERE day BETWEEN ? AND ? ORDER BY day", asked.date, asked.last)]
-    found = []
-    for day in days:
-        kinds = list(office.runs(day))
-        if asked.kind is None or asked.kind in kinds:
-            found.append(Day(office, day).recount(kinds[-1] if asked.kind is None else asked.kind))
-    if not found:
-        raise Fault(f"{office.path}: no date from {clock.date_of(asked.date)} to {clock.date_of(asked.last)} has such a run")
-    return found
 
 
 def of_account(recount, account):
@@ -86,7 +92,7 @@ def of_account(recount, account):
     return rows
 
 
-def of_date(recount, account, rows):
+def of_periods(recount, account, rows):
     """A line for each period, and the sums of the day."""
     lines = []
     for period, row in rows.items():
@@ -105,16 +111,12 @@ def sums_of(rows):
     return [sum(column) for column in zip(*rows)]
 
 
-def of_range(recounts, account, rows):
+def of_range(dates, account):
     """A line for each date, and the sums of them."""
-    by_date = [sums_of(of.values()) for of in rows]
-    lines = [
-        [clock.date_of(recount.day), KINDS[recount.kind], *map(rounded, sums[:4]), *map(pounds, (*sums[4:], sum(sums[4:])))]
-        for recount, sums in zip(recounts, by_date)
-    ]
-    sums = sums_of(by_date)
-    lines.append(["ALL", "", *map(rounded, sums[:4]), *map(pounds, (*sums[4:], sum(sums[4:])))])
-    head = f"STATEMENT  {name_of(account)}  {lines[0][0]} to {lines[-2][0]}    energy in MWh"
+    sums = sums_of(one.sums for one in dates)
+    rows = [(one.date, one.kind, one.sums) for one in dates] + [("ALL", "", sums)]
+    lines = [[date, kind, *map(rounded, sums[:4]), *map(pounds, (*sums[4:], sum(sums[4:])))] for date, kind, sums in rows]
+    head = f"STATEMENT  {name_of(account)}  {dates[0].date} to {dates[-1].date}    energy in MWh"
     return [head, "", *table(DATES, lines, words=(0, 1))]
 
 

@@ -3,7 +3,7 @@
 from . import clock
 from .figures import KWH, PERCENT, TLM, counted, decimal, mwh, per_mwh, pounds
 from .office import KINDS, name_of
-from .recount import Day
+from .recount import recounted
 from .rules import parts_of, subsidiary_credit
 from .statement import account_is_there, of_account
 from .telling import DONE, FAULT, Fault, Told
@@ -31,7 +31,7 @@ def tell(office, asked):
     kind = office.run(asked.date, asked.kind)
     if asked.period is not None and asked.period > clock.count(asked.date):
         raise Fault(f"{clock.date_of(asked.date)} has {clock.count(asked.date)} periods, and no period {asked.period}")
-    recount = Day(office, asked.date, asked.period).recount(kind)
+    recount = recounted(office, asked.date, kind, asked.period)
     rows = of_account(recount, asked.account)
     lines = OfDay(recount, asked.account, rows).lines() if asked.period is None else OfPeriod(recount, asked.account, rows).lines()
     return Told([*lines, "", *recount.closing()], FAULT if recount.faults() else DONE)
@@ -51,7 +51,7 @@ class OfPeriod:
     def __init__(self, recount, account, rows):
         ((self.period, self.row),) = rows.items()
         self.recount, self.inputs, self.account = recount, recount.inputs, account
-        self.credits = recount.credits.get(self.period, {})
+        self.credits = {unit: ticks for unit, *one, ticks in recount.credits[self.period] if tuple(one) == account}
 
     def lines(self):
         begins = clock.start(self.recount.day, self.period)
@@ -64,9 +64,8 @@ class OfPeriod:
     def energy(self):
         """The credited energy, what is taken off it, and the imbalance."""
         lines = [item("Credited energy", mwh(self.row.credited), "MWh")]
-        for unit in sorted(self.credits):
-            if self.account in self.credits[unit]:
-                lines += self.unit_lines(unit)
+        for unit in self.credits:
+            lines += self.unit_lines(unit)
         lines.append(item("Balancing volume, taken off", mwh(-self.row.balancing or 0), "MWh"))
         lines += self.balancing_lines()
         lines.append(item("Contracts, sold less bought, taken off", mwh(-self.row.contracts or 0), "MWh"))
@@ -76,7 +75,7 @@ class OfPeriod:
 
     def unit_lines(self, unit):
         """What the account is credited from a unit."""
-        reading, ticks = self.inputs.reading(self.period, unit), self.credits[unit][self.account]
+        reading, ticks = self.inputs.reading(self.period, unit), self.credits[unit]
         registered = self.inputs.units.get(unit)
         mark = ", an interconnector's" if registered and registered.is_interconnector else ""
         if reading is None or registered is None:
@@ -182,10 +181,10 @@ class OfDay:
     def units(self):
         """What the account is credited from each unit."""
         sums = {}
-        for units in self.recount.credits.values():
-            for unit, credits in units.items():
-                if self.account in credits:
-                    sums[unit] = sums.get(unit, 0) + credits[self.account]
+        for credits in self.recount.credits.values():
+            for unit, party, side, ticks in credits:
+                if (party, side) == self.account:
+                    sums[unit] = sums.get(unit, 0) + ticks
         return sorted(sums.items())
 
     def contracts(self):

@@ -1,4 +1,7 @@
 //! The program `hh_bench`.
+//!
+//! `main` passes the runtime to `hh_trials::run`. It is proved to be safe and to end, and nothing
+//! else is said of it.
 #![tactic(auto)]
 
 use hh_trials::{run, tell};

@@ -1,5 +1,11 @@
-//! A new run of a date: its Settlement Periods, settled, and what is written for it. And what the tables
-//! of an office add up to.
+//! A new run of a date: its Settlement Periods, settled, and what is written for it.
+//!
+//! `settle_day` settles the periods of a day that may have changed, takes the others over, and
+//! stops at the first that passes a limit. `run_change` gives what the machine writes for the run
+//! (`writes_the_run`). Both answer `Store` if a period isn't ready to be settled, or if a count or
+//! a sum is off its range. That is never so for a run that the machine makes (`terms_ready`,
+//! `runs_fit`), so their only fault is then `Memory`. The tables of each state that the machine
+//! reaches add up (`reached_conserve`).
 #![tactic(auto)]
 
 mod entries;

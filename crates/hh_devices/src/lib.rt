@@ -1,4 +1,11 @@
 //! Devices that take or give bytes: in memory, and by a reader or writer of std.
+//!
+//! A `Source` gives bytes, and a `Sink` takes them. Their contracts say which bytes were taken or
+//! are left, where the device tells them, and count the calls that failed or took nothing, up to
+//! the greatest u64. `write_whole` writes all bytes, or a beginning of them and answers that the
+//! sink failed. A `MemorySource` and a `MemorySink` tell their bytes, and fail where they are told
+//! to. No contract says what a real reader or writer gives or takes, or why it fails
+//! (`StreamSource`, `StreamSink`): that is only tested.
 #![tactic(auto)]
 
 mod device;

@@ -1,6 +1,8 @@
 //! Explanations of refusals: which line of which file, what is written there, and what is expected.
 //!
-//! Each is one line of text, without a line end. No clause says what it contains. The texts are tested.
+//! `load_refused`, `late_rows`, `run_refused`, `report_refused`, `period_refused` and
+//! `script_refused` each make one line of text, without a line end. They are proved to be safe and
+//! to end. No clause says what a text contains: the texts are only tested.
 #![tactic(auto)]
 
 mod columns;

@@ -1,5 +1,15 @@
-//! What is computed from the rows that a store keeps, in the order of their keys: the register by which
-//! rows are judged, the contracts of an account, what a Settlement Day is settled from, and the reports.
+//! What is computed from the rows that a store keeps, in the order of their keys: the register by
+//! which rows are judged, the contracts of an account, what a Settlement Day is settled from, and
+//! the reports.
+//!
+//! `KeptRegister::register_for` gives a register that judges rows as one of everything would, and
+//! `KeptRegister::contracts` an account's contracts. `KeptRegister::day_data` gives what the
+//! Settlement Periods of a day are settled from, and `KeptRegister::day_data_beside` takes over
+//! those that haven't changed since the date's latest run. Both give the same settlement if what is
+//! kept beside agrees with the tables (`read_by_what_is_beside`). A part that has the rows of a
+//! date settles as the whole does (`settled_by_its_rows`). `write_day_report_of`,
+//! `write_results_of` and `write_balances_of` write the texts of the reports. Which periods are
+//! taken over is only tested.
 #![tactic(auto)]
 
 mod contract_places;

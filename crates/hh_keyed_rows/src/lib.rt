@@ -1,5 +1,11 @@
-//! The rows of a database table as rows of an office's table: which columns represent a key and a value, in
-//! which ranges, and which table the rows represent, in the order of their keys.
+//! The rows of a database table as rows of an office's table: which columns represent a key and a
+//! value, in which ranges, and which table the rows represent, in the order of their keys.
+//!
+//! What is written for a key or value (`Columned`) is read as the same one, nothing else is read as
+//! it, and no two are written in the same way (`column_codecs`, `key_codecs`, `value_codecs`). A
+//! row off its form or range is no row of an office's table: `read_entry` and `read_entries` answer
+//! `Store`, and never skip it. Rows represent the same table in any order (`rows_in_any_order`),
+//! and INSERT OR REPLACE puts the value under its key (`puts_replace`).
 #![tactic(auto)]
 
 mod accounts;

@@ -1,4 +1,10 @@
 //! Scaled whole numbers, their texts, and rounding.
+//!
+//! `read_fixed` and `read_natural` read exactly the texts of their grammars whose numbers fit.
+//! `write_fixed` appends the one spelling of a number, which is read back as the same number
+//! (`reads_back`). A `Scaled` number is one of a `Quantity`, as `Kwh` or `Pence`, and is never
+//! outside its range. `round_div` gives the whole number nearest to a quotient, and of two the one
+//! farther from zero (`nearest_is_one`).
 #![tactic(auto)]
 
 mod fixed;

@@ -1,4 +1,9 @@
 //! The requests to an office, and its replies.
+//!
+//! A `Request` shows a key and has an `Action`, to which the office answers a `Reply`. A `Report`
+//! is what the operator may have written. They are values alone: a contract only says that a value
+//! holds what it was made from (`Bytes::new`, `AccountReply::new`, `ContractsReply::new`,
+//! `RunsReply::new`).
 #![tactic(auto)]
 
 mod reply;

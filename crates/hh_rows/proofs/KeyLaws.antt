@@ -8,7 +8,7 @@ use Rattle.hh_names.specs.Accounts.{bytes_cmp, account_cmp}
 use Rattle.hh_names.proofs.AccountLaws.{account_total, bytes_total, exact_accounts}
 use Rattle.hh_rows.specs.declared.keys.UnitPeriod.{UnitPeriod}
 use Rattle.hh_rows.specs.declared.settlement_period.SettlementPeriod.{SettlementPeriod}
-use Rattle.hh_rows.specs.Keys.{settlement_period_cmp, unit_period_cmp, contract_key_cmp, reallocation_key_cmp}
+use Rattle.hh_rows.specs.Keys.{settlement_period_cmp, unit_period_cmp, contract_key_cmp, reallocation_key_cmp, lead_key_cmp}
 
 pub settlement_period_total : IsTotalOrder settlement_period_cmp
 settlement_period_total = then_total (on_total (λ p. p.date) nat_cmp_total) (on_total (λ p. p.period) nat_cmp_total)
@@ -21,6 +21,9 @@ contract_key_total = then_total (on_total (λ k. k.reference) bytes_total) (on_t
 
 pub reallocation_key_total : IsTotalOrder reallocation_key_cmp
 reallocation_key_total = then_total (on_total (λ k. k.unit_period) unit_period_total) (on_total (λ k. k.account) account_total)
+
+pub lead_key_total : IsTotalOrder lead_key_cmp
+lead_key_total = then_total (on_total (λ k. k.unit) bytes_total) (on_total (λ k. k.from) nat_cmp_total)
 
 pub exact_settlement_periods : CmpEqualImpliesEq settlement_period_cmp
 exact_settlement_periods a b h =
@@ -37,3 +40,7 @@ exact_contract_keys a b h =
 pub exact_reallocation_keys : CmpEqualImpliesEq reallocation_key_cmp
 exact_reallocation_keys a b h =
     ap (λ (p : UnitPeriod × Account). record { unit_period = p.0; account = p.1 }) (exact_pairs unit_period_cmp account_cmp exact_unit_periods exact_accounts (a.unit_period, a.account) (b.unit_period, b.account) h)
+
+pub exact_lead_keys : CmpEqualImpliesEq lead_key_cmp
+exact_lead_keys a b h =
+    ap (λ (p : List ℕ × ℕ). record { unit = p.0; from = p.1 }) (exact_pairs bytes_cmp nat_cmp exact_bytes exact_unsigned (a.unit, a.from) (b.unit, b.from) h)

@@ -16,6 +16,14 @@ holds range date = nat_le range.from date && nat_le date range.to
 abbrev pub is_inside : Range → Range → Bool
 is_inside inner outer = nat_le outer.from inner.from && nat_le inner.to outer.to
 
+-- the earlier of two dates
+abbrev pub earlier : ℕ → ℕ → ℕ
+earlier a b = if nat_le a b then a else b
+
+-- the range with the earlier of its first date and another date as its first
+abbrev pub begun_by : ℕ → Range → Range
+begun_by date range = record range { from = earlier date range.from }
+
 -- the range from one date to another, if the second isn't before the first
 abbrev pub range_between : ℕ → ℕ → Option Range
 range_between from to = if nat_le from to then Some (record { from = from; to = to }) else None

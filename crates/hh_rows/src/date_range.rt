@@ -1,7 +1,7 @@
 //! Ranges of dates.
 
 ghost use Rattle.std.specs.Prelude.{◌≡◌, ◌≤◌, SomeIff};
-ghost use Rattle.hh_rows.specs.DateRanges.{Range, holds, is_inside, last_date_value, range_to_value};
+ghost use Rattle.hh_rows.specs.DateRanges.{Range, begun_by, holds, is_inside, last_date_value, range_to_value};
 
 use hh_time::SettlementDate;
 use std::marker::Model;
@@ -67,6 +67,20 @@ impl DateRange {
         ensures rising { self.from ≤ self.to }
     {
         (self.from, self.to)
+    }
+
+    /// The range with the earlier of its first date and this one as its first.
+    pub fn begun_by(self, date: SettlementDate) -> DateRange
+        ensures { result ≡ begun_by date self }
+    {
+        if date <= self.from {
+            DateRange {
+                from: date,
+                to: self.to,
+            }
+        } else {
+            self
+        }
     }
 
     /// Whether the date is one of the range.

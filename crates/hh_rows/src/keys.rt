@@ -1,7 +1,8 @@
-//! The keys of meter, contract and reallocation rows.
+//! The keys of meter, contract and reallocation rows, and of the registrations of units.
 
 use crate::settlement_period::SettlementPeriod;
 use hh_names::{Account, Reference, UnitId};
+use hh_time::SettlementDate;
 
 /// The key of a meter row: a BM Unit in a Settlement Period (profile). Ordered by the bytes of the
 /// unit's id, then by Settlement Period.
@@ -25,4 +26,12 @@ pub struct ContractKey {
 pub struct ReallocationKey {
     pub unit_period: UnitPeriod,
     pub account: Account,
+}
+
+/// The key of a registration: a BM Unit, and the first date on which an account leads it (profile).
+/// Ordered by the bytes of the unit's id, then by date.
+#[derive(Clone, Copy, Debug, PartialEq, Eq, PartialOrd, Ord)]
+pub struct LeadKey {
+    pub unit: UnitId,
+    pub from: SettlementDate,
 }

@@ -4,6 +4,7 @@ use crate::date_range::DateRange;
 use crate::keys::{ContractKey, ReallocationKey, UnitPeriod};
 use crate::settlement_period::SettlementPeriod;
 use hh_names::{AccessKey, Account, Contract, PartyId, Price, Reading, Reallocation, UnitId};
+use hh_time::SettlementDate;
 
 /// What is registered of a party: the dates on which it takes part, and the key that it shows
 /// (profile).
@@ -21,6 +22,14 @@ pub struct UnitRegistration {
     pub lead: Account,
     pub interconnector: bool,
     pub range: DateRange,
+}
+
+/// The account that leads a BM Unit under one of its registrations, and the registration's last date
+/// (profile).
+#[derive(Clone, Copy, Debug, PartialEq, Eq)]
+pub struct LeadTerm {
+    pub lead: Account,
+    pub to: SettlementDate,
 }
 
 /// A row of a file of parties.

@@ -1,6 +1,5 @@
 mod Examples
 mod FileLaws
-mod FilterFacts
 pub mod HistoryLaws
 mod JudgeFacts
 mod PercentFacts

@@ -9,6 +9,7 @@ use Rattle.std.specs.declared.cmp.Ordering.{Ordering}
 use Rattle.std.specs.declared.cmp.Ordering.TheVariants.{Less, Equal, Greater}
 use Rattle.std.proofs.lemmas.Int.{ints}
 use Rattle.hh_tables.specs.Tables.{Table, IsTable}
+use Rattle.hh_tables.proofs.FilterLaws.{rising_of}
 use Rattle.hh_names.specs.Accounts.{account_cmp, is_same_account}
 use Rattle.hh_names.proofs.AccountLaws.{account_total}
 use Rattle.hh_rows.specs.Keys.{unit_period_cmp, reallocation_key_cmp}
@@ -19,7 +20,6 @@ use Rattle.hh_rows.proofs.TotalLaws.{total-same}
 use Rattle.hh_names.specs.declared.values.Reallocation.{Reallocation}
 use Rattle.hh_rules.specs.Percents.{SumsPercents, is_of_other, percent_at, percent_of_others}
 use Rattle.hh_rules.specs.steps.Percents.{percent_in}
-use Rattle.hh_rules.proofs.FilterFacts.{rising_of}
 use Rattle.hh_rules.proofs.SumFacts.{part_of, total-put-part, total-others, total-some, all-put}
 
 abbrev same_unit_period : UnitPeriod → UnitPeriod → Bool

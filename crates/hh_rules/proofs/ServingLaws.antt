@@ -8,6 +8,7 @@ use Rattle.std.specs.FinMap.Entries.{find-put, is_sorted-put}
 use Rattle.jiff.specs.declared.tz.timezone.TimeZone.{TimeZone}
 use Rattle.std.specs.Ordering.{eq_by_cmp}
 use Rattle.hh_tables.specs.Tables.{Table, IsTable}
+use Rattle.hh_tables.proofs.FilterLaws.{filter-put, rising_of}
 use Rattle.hh_rows.specs.Totals.{total}
 use Rattle.hh_rows.proofs.TotalLaws.{total-filter, total-same}
 use Rattle.hh_names.specs.declared.fault.Refusal.TheVariants as refusal
@@ -32,7 +33,6 @@ use Rattle.hh_rules.specs.Refusals.{Standing, is_some_that, is_unit_moved, most_
 use Rattle.hh_rules.specs.Effects.{count_new, put_entry, put_in_time, put_new, with_row}
 use Rattle.hh_rules.specs.Entries.{contract_entry, meter_entry, party_entry, price_entry, reallocation_entry, reference_entry, unit_entry}
 use Rattle.hh_rules.specs.RegisterView.{AgreesOn, JudgesAsWhole, RegisterView, ServesAfter, ServesFor, after_row, in_time_at, judged, judged_at, reallocations_at, refusal_at, register_after, tables_in, timetable_in, timetable_of}
-use Rattle.hh_rules.proofs.FilterFacts.{filter-put, rising_of}
 
 -- a reallocation is of this unit in this Settlement Period
 abbrev is_at : UnitPeriod → ReallocationKey × Reallocation → Bool

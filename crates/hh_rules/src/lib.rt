@@ -1,5 +1,14 @@
 //! The register of parties, units, references and rows in force, and the rules by which a row is
 //! accepted or refused.
+//!
+//! A `Register` may hold a part of what is registered and in force. It serves for some rows
+//! (`ServesFor`) if it has what the whole has of all that they are judged by, and the rows in force
+//! of their keys. `Register::judge_file` judges the rows of a file, each after those before it, and
+//! what it promises holds for every history for which the register serves. `Register::check_row`
+//! and `Register::apply_row` judge one row: a refusal has the least number that applies, and leaves
+//! the register as it was. A late row (`is_in_time`) changes nothing in force (`registered_in`),
+//! but the first row of a reference, late or not, fixes its seller and buyer. `Positions::replace`
+//! moves the contract positions of a row's seller and buyer, and no others (`positions_by_keys`).
 #![tactic(auto)]
 
 mod file_rows;

@@ -1,4 +1,9 @@
 //! Runs: their kinds and order, their summaries, and the differences between two runs of a date.
+//!
+//! `next_kind` says of a run whether it is new, is there already, or is refused 50 or 51.
+//! `differences` gives what a run posts: the accounts of either run whose day net differs, each
+//! with its new net less its old. An account that a run doesn't have counts as 0 there. A `RunKey`
+//! names a run by its date and its `RunKind`, and a `Summary` sums it up.
 #![tactic(auto)]
 
 mod changes;

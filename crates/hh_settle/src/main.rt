@@ -1,4 +1,13 @@
 //! The program `settle`.
+//!
+//! `command_on` does what the words of a command line ask, and gives the exit status (`done`,
+//! `stopped`, `wrong`). Its clauses say the same of standard output and the status with
+//! explanations as without them. With explanations nothing is said of standard error, and since an
+//! explanation asks for memory and reads tables, memory may run out or a store may fail at another
+//! place. If no moment is given, a load, a run or a connection has any that the clock may give
+//! (`IsMoment`). `command` has these clauses for this computer, of whose files, ports, clock and
+//! databases no contract knows anything. That the system gives `run` the words that were typed, and
+//! that `main` passes it the runtime and the standard streams, is in no clause: read it.
 #![tactic(auto)]
 
 mod database;

@@ -1,5 +1,12 @@
-//! Reading a part of what is registered and in force: the part from which a Settlement Day is settled, and
-//! the part by which the rows of a file are judged.
+//! Reading a part of what is registered and in force: the part from which a Settlement Day is
+//! settled, and the part by which the rows of a file are judged.
+//!
+//! Rows are judged by the part that `select_named` gives as they are by all tables, and a
+//! Settlement Day settles by that of `select_day` as by all. `select_contracts_of_day` gives the
+//! contracts of a date alone, `select_day_beside` what is kept beside the rows of a date, and
+//! `select_positions_after` the positions that rows change. `select_beside_anew` gives what has to
+//! be kept beside tables that have nothing beside them so far. Each call only reads (`reading`,
+//! `safe`).
 #![tactic(auto)]
 
 mod beside_anew;

@@ -1,4 +1,14 @@
 //! The statements of an office's tables in a database: what each selects, and what each writes.
+//!
+//! An office's database has sixteen tables (`make_tables`): the thirteen that an office keeps, and
+//! `positions`, `touched` and `marks`. The clauses of a call that writes, as `replace_party` or
+//! `insert_run`, are about a statement in a transaction, over a disk that has returned what was
+//! written (`puts`). Those of a call that selects, as `select_party`, are about a connection that
+//! is open afterwards (`value`). If a call that gives rows to a `RowTaker` fails, as
+//! `give_results_of`, the taker was given a beginning of these rows (`GivesEach`). `insert_meters`
+//! and `insert_contracts` write a group of rows or leave the database as it is, and answer which.
+//! When they write is in no clause: that rows with new keys are written eight a statement is only
+//! tested.
 #![tactic(auto)]
 
 mod contract_rows;

@@ -1,4 +1,10 @@
 //! The states of the settlement machine, and the tables that represent them.
+//!
+//! The crate has definitions, which contracts of the crates above cite, and the order of keys
+//! (`FileKey::cmp`). A `State` has all that was ever accepted. The machine begins with an office's
+//! settings alone, and reaches the states that follow by accepted files and by runs (`IsReached`).
+//! Tables represent a state if the machine reaches it, and they are those that `tables_of` finds
+//! from it (`TablesRepresent`). What holds of such states is proved in `hh_state_laws`.
 #![tactic(auto)]
 
 mod file_key;

@@ -1,7 +1,10 @@
 pub mod BehindLaws
+pub mod FilterLaws
+pub mod LastLaws
 pub mod MergeLaws
 pub mod OrderLaws
 pub mod RowLaws
 pub mod SearchLaws
 pub mod TableFacts
 pub mod TableLaws
+pub mod WithoutLaws

@@ -97,7 +97,7 @@ module _ {K V : Type 0} {R : K → K → Ordering} (o : IsTotalOrder R) where
   below_less x y [] p h = tt
   below_less x y (e ∷ es) p h = both _ _ (is_less _ (o.trans x y e.0 p (less _ (first _ _ h)))) (below_less x y es p (second _ _ h))
 
-  below_tied : (x y : K) (es : List (K × V)) → R x y ≡ Equal → T (below_all R y es) → T (below_all R x es)
+  pub below_tied : (x y : K) (es : List (K × V)) → R x y ≡ Equal → T (below_all R y es) → T (below_all R x es)
   below_tied x y [] p h = tt
   below_tied x y (e ∷ es) p h = both _ _ (is_less _ (o.congr x y e.0 p ∙ less _ (first _ _ h))) (below_tied x y es p (second _ _ h))
 

@@ -9,7 +9,7 @@ ghost use Rattle.std.specs.declared.cmp.Ordering.TheVariants.{Equal};
 ghost use Rattle.std.specs.List.Sorted.{IsSortedByKey, IsStableByKey};
 ghost use Rattle.hh_tables.specs.steps.Merges.{is_up_to, AreUpTo};
 ghost use Rattle.hh_tables.specs.Places.{IsPlaceOf};
-ghost use Rattle.hh_tables.specs.Tables.{IsTable, put_all};
+ghost use Rattle.hh_tables.specs.Tables.{IsTable, put_all, with_before};
 
 use std::alloc::{AllocError, Global};
 use std::marker::Model;
@@ -111,6 +111,23 @@ impl<K: Ord + Copy, V: Copy> ListTable<K, V> {
             return Ok(());
         }
         self.put_row(key, value)
+    }
+
+    /// Gives a key the row that it had before one was put under it, or takes its row out if it had none.
+    /// Takes no memory, and can't fail.
+    pub fn put_back(&mut self, key: &K, before: Option<V>)
+        requires { IsSome before → IsSome (find K.cmp key.now self.old) }
+        ensures { self.new ≡ with_before K.cmp key.now before self.old }
+    {
+        let Ok(place) = self.rows.binary_search_by_key(key, |row| row.0) else {
+            return;
+        };
+        match before {
+            Some(value) => self.rows[place].1 = value,
+            None => {
+                self.rows.remove(place);
+            }
+        }
     }
 
     /// Whether the row at a place has this key.

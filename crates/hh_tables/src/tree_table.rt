@@ -3,7 +3,8 @@
 ghost use Rattle.std.specs.Prelude.{◌≡◌, [], ◌∷◌, IfOk, IsSome, OnOk, OnErr};
 ghost use Rattle.std.specs.BTreeMap.{get};
 ghost use Rattle.std.specs.FinMap.{find, put};
-ghost use Rattle.hh_tables.specs.Tables.{IsTable, put_all};
+ghost use Rattle.hh_tables.specs.Ends.{last_up_to};
+ghost use Rattle.hh_tables.specs.Tables.{IsTable, put_all, without};
 ghost use Rattle.hh_tables.specs.steps.Trees.{Inserts, InsertsTwo, PutsBack};
 
 use std::alloc::{AllocError, Global};
@@ -63,6 +64,22 @@ impl<K: Ord + Copy, V: Copy> TreeTable<K, V> {
         ensures err { OnErr result (self.new ≡ self.old) }
     {
         put_two_into(&mut self.rows, first, second)
+    }
+
+    /// Takes out the row under a key, if there is one. Takes no memory, and can't fail.
+    pub fn remove(&mut self, key: &K)
+        ensures { self.new ≡ without K.cmp key.now self.old }
+    {
+        self.rows.remove(key);
+    }
+
+    /// The last row whose key is this one or below it, if there is one.
+    pub fn last_up_to(&self, key: &K) -> Option<(K, V)>
+        ensures value { result ≡ last_up_to K.cmp key.now self.now }
+        ensures rising { IsTable K.cmp self.now }
+    {
+        let (found, value) = self.rows.range(..=*key).next_back()?;
+        Some((*found, *value))
     }
 
     /// The rows with their keys, in the order of the keys. `Err` only if memory is refused.

@@ -1,16 +1,18 @@
-//! The office, tested from outside: what no clause says and no program shows. What programs show, namely
-//! the office's answers, its reports and the bytes of its replies, is tested through `settle`.
+//! The office, tested from outside: what no clause says and no program shows. What programs show,
+//! namely the office's answers, its reports and the bytes of its replies, is tested through
+//! `settle`.
 //!
 //! - Rows that no table of an office's database can hold.
 //! - Reports over tables in memory and over tables in a database, into outputs in memory.
-//! - Disks that stop: an office's database over two disks in memory, one of which fails each call after a
-//!   number of calls. Then the database is opened again from what the disks have.
-//! - Connections over devices in memory: which bytes are written if a read or a write fails. Replies are
-//!   written out here in the grammar of [formats](../../docs/formats.md).
+//! - Disks that stop: an office's database over two disks in memory, one of which fails each call
+//!   after a number of calls. Then the database is opened again from what the disks have.
+//! - Connections over devices in memory: which bytes are written if a read or a write fails.
+//!   Replies are written out here in the grammar of [formats](../../docs/formats.md).
 //! - Commands over files in memory.
 //!
-//! They are in one program, because a program of tests takes a minute before its first test is proved, and
-//! its compiler takes long. A crate of code has no tests, because a crate with tests is proved twice.
+//! They are in one program, because a program of tests takes a minute before its first test is
+//! proved, and its compiler takes long. A crate of code has no tests, because a crate with tests is
+//! proved twice.
 #![tactic(auto)]
 
 #[cfg(test)]

@@ -1,6 +1,6 @@
 //! The dates of Settlement Days.
 
-ghost use Rattle.std.specs.Prelude.{◌≡◌, ◌≤◌, ◌↔◌, SomeIff, IfSome, IsSome, IsOk, IfOk, IfErr, IsTrue, pos};
+ghost use Rattle.std.specs.Prelude.{◌≡◌, ◌<◌, ◌≤◌, ◌-◌, ◌↔◌, SomeIff, IfSome, IsSome, IsOk, IfOk, IfErr, IsTrue, pos};
 ghost use Rattle.jiff.specs.Words.{epoch_day, IsBetween};
 ghost use Rattle.hh_time.specs.Calendar.{date_on};
 ghost use Rattle.hh_time.specs.Days.{is_accepted, last_date};
@@ -51,6 +51,19 @@ impl SettlementDate {
         ensures { result ≡ last_date }
     {
         SettlementDate { days: LAST }
+    }
+
+    /// The day before `next`, if that isn't before this date.
+    pub fn last_before(self, next: SettlementDate) -> Option<SettlementDate>
+        ensures { SomeIff result (self < next) (next - 1) }
+    {
+        if self < next {
+            Some(SettlementDate {
+                days: next.days - 1,
+            })
+        } else {
+            None
+        }
     }
 
     /// Days since 1970-01-01.

@@ -1,19 +1,25 @@
 //! Measurements and trials, each by a command of its own.
 //!
-//! - `settle TIMES` settles a period of the market's size, `read KIND FILE TIMES` reads a file of a kind, and
-//!   `load KIND FILE ..` reads files and applies their rows to a new register.
+//! `run` does what the words of the program ask, and `tell` gives the exit status. They are proved
+//! to be safe and to end. No clause says what is measured or found.
+//!
+//! - `settle TIMES` settles a period of the market's size, `read KIND FILE TIMES` reads a file of a
+//!   kind, and `load KIND FILE ..` reads files and applies their rows to a new register.
 //! - `office DB SCRIPT` runs the lines of a script over the office in a database file. With
 //!   `OPERATOR-KEY LEAD-MINUTES` after that it makes the office first.
-//! - `answer KIND` reads damaged inputs from standard input, each twice, and writes their answers. KIND is
-//!   the word of a kind of file, `request`, `script`, or `database MOMENT FILE ..`: then the office in each
-//!   database gets the calls of the files, each an HTTP request or a line of a script that asks for a report.
+//! - `answer KIND` reads damaged inputs from standard input, each twice, and writes their answers.
+//!   KIND is the word of a kind of file, `request`, `script`, or `database MOMENT FILE ..`: then
+//!   the office in each database gets the calls of the files, each an HTTP request or a line of a
+//!   script that asks for a report.
 //! - `log DB MOMENT FILE ..` writes the log that is left beside a database file after such calls.
-//! - `refuse WAY HOW STORE MOMENT FILE ..` makes an office and gives it such calls, with each growth of
-//!   memory refused in turn. WAY is `handle`, `serve` or `together`. HOW is `once`, or `on` if each later
-//!   growth is refused too. STORE is `memory`, or the path of a database file that is to be made.
+//! - `refuse WAY HOW STORE MOMENT FILE ..` makes an office and gives it such calls, with each
+//!   growth of memory refused in turn. WAY is `handle`, `serve` or `together`. HOW is `once`, or
+//!   `on` if each later growth is refused too. STORE is `memory`, or the path of a database file
+//!   that is to be made.
 //!
-//! What was done is written to standard output, and the nanoseconds that it took, or what is wrong, to
-//! standard error. Memory is refused by a library that is loaded before, `tests/failing_malloc.c`.
+//! What was done is written to standard output, and the nanoseconds that it took, or what is wrong,
+//! to standard error. Memory is refused by a library that is loaded before,
+//! `tests/failing_malloc.c`.
 #![tactic(auto)]
 
 mod answers;

@@ -1,4 +1,10 @@
 //! Requests as the bytes of HTTP connections.
+//!
+//! `read_request` reads what a client sends. What the bytes of a connection ask is a relation
+//! between all of the bytes and a message (`IsMessage`), whatever the pieces in which they come.
+//! They ask exactly one thing (`message_is_one`). This holds of a source that tells its bytes, as
+//! one in memory does. So a failed read is never taken for the end, and a cut request never for no
+//! request. No read is made once the bytes decide what they ask (`awaited`).
 #![tactic(auto)]
 
 mod body;

@@ -1,4 +1,8 @@
 //! The values that words of a command have.
+//!
+//! `read_moment`, `read_shown_key`, `read_path`, `read_path_name`, `read_run_key`, `read_report`,
+//! `read_port` and `read_count` give a value exactly if a word has one. A `CutText` shows a word
+//! that has none. No clause says what it shows: that is only tested.
 #![tactic(auto)]
 
 mod connections;

@@ -1,17 +1,13 @@
 -- The rows of a table whose keys pass a test, after one more row.
 use Rattle.std.proofs.Common.{◌≡◌, [], ◌∷◌, Bool, true, false, cond, refl, sym, ap, ◌∙◌, Some, None, Ordering}
-use Rattle.std.specs.Prelude.{◌&&◌, filter, T}
+use Rattle.std.specs.Prelude.{filter, T}
 use Rattle.std.specs.Cmp.{IsTotalOrder, Equal-is}
 use Rattle.std.specs.FinMap.{find, put, is_sorted}
-use Rattle.std.specs.FinMap.Entries.{below_all, find-put, is_sorted-put, same_entries}
-use Rattle.std.specs.Ordering.{eq_by_cmp, is_lt}
+use Rattle.std.specs.FinMap.Entries.{find-put, is_sorted-put, same_entries}
+use Rattle.std.specs.Ordering.{eq_by_cmp}
 use Rattle.std.specs.declared.cmp.Ordering.TheVariants.{Equal}
 use Rattle.hh_tables.specs.Tables.{Table, IsTable}
-use Rattle.hh_rules.proofs.SumFacts.{both_true}
-
-both_are : (a b : Bool) → T a → T b → T (a && b)
-both_are true b h k = k
-both_are false b h k = h
+use Rattle.hh_tables.proofs.RowLaws.{sorted-filter}
 
 pub rising_of : {K V : Type 0} (R : K → K → Ordering) (es : Table K V) → T (is_sorted R es) → IsTable R es
 rising_of R es h = is_true (is_sorted R es) h
@@ -19,25 +15,6 @@ rising_of R es h = is_true (is_sorted R es) h
     is_true : (b : Bool) → T b → b ≡ true
     is_true true h = refl
     is_true false h = absurd h
-
-module _ {K V : Type 0} (R : K → K → Ordering) (passes : K → Bool) where
-  below-filter : (x : K) (es : Table K V) → T (below_all R x es) → T (below_all R x (filter (λ e. passes e.0) es))
-  below-filter x [] h = tt
-  below-filter x (e ∷ es) h =
-      let halves = both_true (is_lt (R x e.0)) (below_all R x es) h in
-      elim (passes e.0) as (λ b. T (below_all R x (cond b (e ∷ filter (λ y. passes y.0) es) (filter (λ y. passes y.0) es)))) [
-        | true ↦ both_are (is_lt (R x e.0)) _ halves.0 (below-filter x es halves.1)
-        | false ↦ below-filter x es halves.1
-      ]
-
-  sorted-filter : (es : Table K V) → T (is_sorted R es) → T (is_sorted R (filter (λ e. passes e.0) es))
-  sorted-filter [] h = tt
-  sorted-filter (e ∷ es) h =
-      let halves = both_true (below_all R e.0 es) (is_sorted R es) h in
-      elim (passes e.0) as (λ b. T (is_sorted R (cond b (e ∷ filter (λ y. passes y.0) es) (filter (λ y. passes y.0) es)))) [
-        | true ↦ both_are (below_all R e.0 (filter (λ y. passes y.0) es)) _ (below-filter e.0 es halves.0) (sorted-filter es halves.1)
-        | false ↦ sorted-filter es halves.1
-      ]
 
 no_matter : {X : Type 0} (b : Bool) (x : X) → x ≡ cond b x x
 no_matter true x = refl
@@ -48,7 +25,7 @@ passes_alike {R = R} exact passes x y same = ap passes (exact x y ((Equal-is (R 
 
 module _ {K V : Type 0} {R : K → K → Ordering} (o : IsTotalOrder R) (exact : (x y : K) → R x y ≡ Equal → x ≡ y) (passes : K → Bool) where
   -- a key is found among those rows only if it passes
-  find-filter : (es : Table K V) (q : K) → find R q (filter (λ e. passes e.0) es) ≡ cond (passes q) (find R q es) None
+  pub find-filter : (es : Table K V) (q : K) → find R q (filter (λ e. passes e.0) es) ≡ cond (passes q) (find R q es) None
   find-filter [] q = no_matter (passes q) None
   find-filter (e ∷ es) q =
       let rest = find-filter es q in
@@ -72,11 +49,11 @@ module _ {K V : Type 0} {R : K → K → Ordering} (o : IsTotalOrder R) (exact :
   filter-put k v es sorted =
       let some : Table K V = filter (λ e. passes e.0) es in
       elim (passes k) as (λ b. passes k ≡ b → filter (λ e. passes e.0) (put R k v es) ≡ cond b (put R k v some) some) [
-        | true ↦ λ h. same_entries R o exact _ _ (sorted-filter R passes (put R k v es) (is_sorted-put R o k v es sorted)) (is_sorted-put R o k v some (sorted-filter R passes es sorted))
+        | true ↦ λ h. same_entries R o exact _ _ (sorted-filter R (λ e. passes e.0) (put R k v es) (is_sorted-put R o k v es sorted)) (is_sorted-put R o k v some (sorted-filter R (λ e. passes e.0) es sorted))
             (λ q. find-filter (put R k v es) q ∙ ap (λ f. cond (passes q) f None) (find-put R o q k v es)
             ∙ with_it h q (eq_by_cmp R q k) refl
             ∙ sym (find-put R o q k v some ∙ ap (cond (eq_by_cmp R q k) (Some v)) (find-filter es q)))
-        | false ↦ λ h. same_entries R o exact _ _ (sorted-filter R passes (put R k v es) (is_sorted-put R o k v es sorted)) (sorted-filter R passes es sorted)
+        | false ↦ λ h. same_entries R o exact _ _ (sorted-filter R (λ e. passes e.0) (put R k v es) (is_sorted-put R o k v es sorted)) (sorted-filter R (λ e. passes e.0) es sorted)
             (λ q. find-filter (put R k v es) q ∙ ap (λ f. cond (passes q) f None) (find-put R o q k v es)
             ∙ without_it h q (eq_by_cmp R q k) refl
             ∙ sym (find-filter es q))

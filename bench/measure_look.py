@@ -1,0 +1,144 @@
+#!/usr/bin/env python3
+"""Measures the commands of `./look` at the market's size, beside `cp` and `sqlite3`.
+
+usage: measure_look.py [PROGRAM] [--rounds 5] [--only WORD,..]
+PROGRAM makes the office, and is asked by `check` and `preview`; by default it is crates/hh_settle/out/hh_settle at the top of this
+repository. It loads the day of gen_day.py, makes SF, loads the prices again with the first raised by 10 pounds, and makes R1. In each
+round each command of `look` is called once. Beside it `cp` copies the office's two files, and one `sqlite3` writes all rows that the
+command reads. What is written goes to /dev/null. `check` and `preview` wait for the program, which reads the whole file: beside them
+`sqlite3` writes all rows of all tables, and the program alone is called with the same words over a copy. --only names the commands
+that are measured. It needs Python 3 and `sqlite3`."""
+import argparse
+import os
+import pathlib
+import statistics
+import subprocess
+import sys
+import tempfile
+import time
+
+from measure_day import FIRST, KEY, lines_of_day, script_of
+from measure_run import LATER, dearer_prices, run_line
+from measuring import BENCH
+
+LOOK = [sys.executable, "-IS", str(BENCH.parent / "look")]
+ACCOUNT, PERIOD = "PARTY0007-P", "23"
+DATE = str(FIRST)
+OF_DAY = ("meters", "prices", "contracts", "reallocations")
+TABLES = (*OF_DAY, "files", "parties", "units", "refs", "runs", "results", "credits", "postings", "positions", "touched", "marks", "settings")
+MOST = 3.0
+
+
+def rows(*tables, where=""):
+    """A question for all columns of these tables' rows."""
+    return [f"SELECT * FROM {table}{where};" for table in tables]
+
+
+def read_by(kinds, period=None):
+    """What a command reads that shows runs of these kinds."""
+    some = f" AND period = {period}" if period else ""
+    of_runs = [f" WHERE day = (SELECT max(day) FROM runs) AND kind = {kind}{some}" for kind in kinds]
+    of_day = rows(*OF_DAY, where=f" WHERE day = (SELECT max(day) FROM runs){some}")
+    return [*of_day, *rows("files", "parties", "units", "refs", "runs"), *(line for where in of_runs for line in rows("results", "credits", where=where))]
+
+
+# The words of each command, and what `sqlite3` reads beside it.
+COMMANDS = {
+    "status": ([], rows("prices", "meters", "contracts", "reallocations", "touched", "runs", "parties", "units")),
+    "missing": ([DATE], rows("prices", "meters", "units")),
+    "why, a period": ([ACCOUNT, DATE, "R1", PERIOD], read_by([1], PERIOD)),
+    "why, a day": ([ACCOUNT, DATE], read_by([1])),
+    "statement": ([ACCOUNT, DATE], read_by([1])),
+    "compare": ([DATE, "SF", "R1"], [*read_by([0, 1]), *rows("postings")]),
+    "postings": ([DATE, "R1"], [*read_by([0, 1]), *rows("postings")]),
+    "page": ([DATE, "R1"], [*read_by([0, 1]), *rows("postings")]),
+    "snapshot": (["OUT"], ["PRAGMA integrity_check;"]),
+    "check": ([f"--at={LATER}", "prices", "AGAIN"], rows(*TABLES)),
+    "preview": ([f"--at={LATER}", DATE, "R2"], rows(*TABLES)),
+}
+
+
+def read_words():
+    parser = argparse.ArgumentParser(description=__doc__, formatter_class=argparse.RawDescriptionHelpFormatter)
+    parser.add_argument("program", nargs="?", default=str(BENCH.parent / "crates" / "hh_settle" / "out" / "hh_settle"))
+    parser.add_argument("--rounds", type=int, default=5)
+    parser.add_argument("--only", default="")
+    words = parser.parse_args()
+    words.program = str(pathlib.Path(words.program).resolve())
+    if not pathlib.Path(words.program).is_file():
+        sys.exit(f"no program at {words.program}: build it by ./settle")
+    return words
+
+
+def new_office(program, folder):
+    """The path of an office with the day and both runs."""
+    database = folder / "office.db"
+    day, again = lines_of_day(folder, 1), dearer_prices(folder)
+    lines = [day, run_line("SF"), f"load {LATER} {KEY} prices {again}\n", run_line("R1")]
+    for words in ("init", "--operator-key", KEY), ("script", "--strict", script_of(folder, "day", lines)):
+        subprocess.run([program, words[0], "--db", str(database), *words[1:]], stdout=subprocess.DEVNULL, check=True)
+    return database
+
+
+def taken(*commands):
+    """The milliseconds that commands take, one after the other. What they write is gone."""
+    begin = time.perf_counter()
+    for command in commands:
+        subprocess.run(command, stdout=subprocess.DEVNULL, stderr=subprocess.DEVNULL, check=True)
+    return 1000 * (time.perf_counter() - begin)
+
+
+def gone(path):
+    """A path at which there is nothing, nor a log beside it."""
+    for left in path.parent.glob(f"{path.name}*"):
+        left.unlink()
+    return path
+
+
+def of_look(database, folder, name):
+    """The milliseconds of a command of `look`."""
+    places = {"OUT": str(gone(folder / "out.db")), "AGAIN": str(folder / f"again-prices-{DATE}-1.csv")}
+    words = [places.get(word, word) for word in COMMANDS[name][0]]
+    return taken([*LOOK, name.partition(",")[0], "--db", str(database), *words])
+
+
+def of_both(database, folder, name):
+    """Those of `cp` and `sqlite3`."""
+    copy = gone(folder / "copy.db")
+    files = [path for path in (database, database.with_name(f"{database.name}-wal")) if path.exists()]
+    copies = [["cp", str(path), str(copy) + path.name.removeprefix(database.name)] for path in files]
+    return taken(*copies, ["sqlite3", "-readonly", str(copy), " ".join(COMMANDS[name][1])])
+
+
+def of_program(program, database, folder, name):
+    """Those of the program with the words of `preview`, or with a file like that of `check`, over a copy."""
+    copy = gone(folder / "copy.db")
+    subprocess.run(["cp", str(database), str(copy)], check=True)
+    words = ["run", DATE, "R2"] if name == "preview" else ["load", "prices", str(folder / DATE / f"prices-{DATE}-1.csv")]
+    return taken([program, words[0], "--db", str(copy), "--key", KEY, f"--at={LATER}", *words[1:]])
+
+
+def main():
+    words = read_words()
+    os.environ["SETTLE_PROGRAM"] = words.program
+    names = [name for name in COMMANDS if not words.only or name.partition(",")[0] in words.only.split(",")]
+    times = {name: ([], [], []) for name in names}
+    with tempfile.TemporaryDirectory() as room:
+        folder = pathlib.Path(room)
+        database = new_office(words.program, folder)
+        for _ in range(words.rounds):
+            for name in names:
+                times[name][0].append(of_look(database, folder, name))
+                times[name][1].append(of_both(database, folder, name))
+                if name in ("check", "preview"):
+                    times[name][2].append(of_program(words.program, database, folder, name))
+    print("| Command | `look`, ms | `cp` and `sqlite3`, ms | Ratio | The program alone, ms |\n|---|---:|---:|---:|---:|")
+    for name, found in times.items():
+        look, both, alone = (statistics.median(each) if each else None for each in found)
+        print(f"| `{name}` | {look:.0f} | {both:.0f} | {look / both:.2f} | {'' if alone is None else f'{alone:.0f}'} |")
+    high = [name for name in names if statistics.median(times[name][0]) > MOST * statistics.median(times[name][1])]
+    print(f"\nThe aim is a ratio of at most {MOST}: {'not met by ' + ', '.join(high) if high else 'met'}.")
+
+
+if __name__ == "__main__":
+    main()

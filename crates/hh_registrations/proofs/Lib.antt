@@ -1,0 +1,3 @@
+pub mod ChangeLaws
+pub mod KeyLaws
+pub mod UpToLaws

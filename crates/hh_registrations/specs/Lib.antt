@@ -1,0 +1,2 @@
+pub mod Registrations
+pub mod steps

@@ -1,0 +1,120 @@
+-- The registrations of units: which account leads a unit from which date to which, and what a row of units makes of them.
+use Rattle.std.specs.Prelude.{ℕ, ◌-◌, nat_le, nat_lt, List, [], filter, Bool, not, ◌&&◌, Option, Some, None, option_map, if◌then◌else◌}
+use Rattle.std.specs.FinMap.{find, put}
+use Rattle.std.specs.Ordering.{eq_by_cmp}
+use Rattle.hh_tables.specs.Ends.{last_of}
+use Rattle.hh_tables.specs.Tables.{Table, without}
+use Rattle.hh_names.specs.declared.account.Account.{Account}
+use Rattle.hh_names.specs.Accounts.{bytes_cmp, is_same_account}
+use Rattle.hh_rows.specs.DateRanges.{begun_by}
+use Rattle.hh_rows.specs.Keys.{lead_key_cmp}
+use Rattle.hh_rows.specs.declared.keys.LeadKey.{LeadKey}
+use Rattle.hh_rows.specs.declared.rows.LeadTerm.{LeadTerm}
+use Rattle.hh_rows.specs.declared.rows.UnitRegistration.{UnitRegistration}
+use Rattle.hh_rows.specs.declared.rows.UnitRow.{UnitRow}
+use Rattle.hh_registrations.specs.declared.unit_change.FormerLead.{FormerLead}
+use Rattle.hh_registrations.specs.declared.unit_change.FormerLead.TheVariants as former
+use Rattle.hh_registrations.specs.declared.unit_change.UnitChange.{UnitChange}
+
+-- a registration: a unit with its first date, and the lead account with the last date
+abbrev pub Lead : Type 0
+Lead = LeadKey × LeadTerm
+
+-- the registrations of all units
+abbrev pub Leads : Type 0
+Leads = Table LeadKey LeadTerm
+
+-- What is registered of units: of each unit its latest lead account, its mark and its whole range, and the registrations of all.
+pub record RegistrationsView : Type 0 where
+  pub units : Table (List ℕ) UnitRegistration
+  pub leads : Leads
+
+-- no unit is registered
+abbrev pub no_registrations : RegistrationsView
+no_registrations = record { units = []; leads = [] }
+
+-- ---- who leads a unit on a date
+
+-- the registration is one of this unit
+abbrev pub is_of : List ℕ → LeadKey → Bool
+is_of unit key = eq_by_cmp bytes_cmp key.unit unit
+
+-- the registration is one of this unit, and begins on the date or before
+abbrev pub is_begun : List ℕ → ℕ → LeadKey → Bool
+is_begun unit date key = is_of unit key && nat_le key.from date
+
+-- a registration, unless it has ended before a date
+abbrev pub unless_ended : ℕ → Option Lead → Option Lead
+unless_ended date None = None
+unless_ended date (Some lead) = if nat_le date lead.1.to then Some lead else None
+
+module _ (leads : Leads) (unit : List ℕ) where
+  -- the registrations of a unit
+  abbrev pub registrations_of : Leads
+  registrations_of = filter (λ e. is_of unit e.0) leads
+
+  -- the last of them
+  abbrev pub last_registration : Option Lead
+  last_registration = last_of registrations_of
+
+  -- the last of them that begins on a date or before
+  abbrev pub last_begun : ℕ → Option Lead
+  last_begun date = last_of (filter (λ e. is_begun unit date e.0) leads)
+
+  -- the registration of a unit on a date: the last that has begun, unless it has ended
+  abbrev pub registration_on : ℕ → Option Lead
+  registration_on date = unless_ended date (last_begun date)
+
+-- the account that leads a unit on a date: that of the unit's registration on the date
+abbrev pub registered_lead_on : RegistrationsView → List ℕ → ℕ → Option Account
+registered_lead_on registered unit date = option_map (λ e. e.1.lead) (registration_on registered.leads unit date)
+
+-- ---- what a row of units makes of them
+
+-- A further row of a unit is a widening if its account is that of the unit's last registration, and a succession otherwise.
+abbrev pub is_widening : Lead → UnitRegistration → Bool
+is_widening last new = is_same_account last.1.lead new.lead
+
+abbrev pub is_succession : Lead → UnitRegistration → Bool
+is_succession last new = not (is_widening last new)
+
+-- What becomes of the unit's last registration: if a succession begins later, it ends on the day before. Otherwise the row's
+-- registration takes its place.
+abbrev pub former_lead : Option Lead → UnitRegistration → FormerLead
+former_lead None new = former.Absent
+former_lead (Some last) new =
+    if is_succession last new && nat_lt last.0.from new.range.from then former.Ended last.0 (record last.1 { to = new.range.from - 1 })
+    else former.Replaced last.0
+
+-- what is registered of the unit: lead account, mark and last date are the row's, and the first date is the earliest of its rows
+abbrev pub widened : Option UnitRegistration → UnitRegistration → UnitRegistration
+widened None new = new
+widened (Some known) new = record new { range = begun_by known.range.from new.range }
+
+-- what a row of units changes
+abbrev pub unit_change : RegistrationsView → UnitRow → UnitChange
+unit_change registered r = record {
+  registration = widened (find bytes_cmp r.unit registered.units) r.registration;
+  former = former_lead (last_registration registered.leads r.unit) r.registration;
+  key = record { unit = r.unit; from = r.registration.range.from };
+  term = record { lead = r.registration.lead; to = r.registration.range.to };
+}
+
+-- the registrations without the former one, or with its new end
+abbrev pub beside_former : FormerLead → Leads → Leads
+beside_former former.Absent leads = leads
+beside_former (former.Replaced key) leads = without lead_key_cmp key leads
+beside_former (former.Ended key term) leads = put lead_key_cmp key term leads
+
+-- the registrations with a change made
+abbrev pub leads_with : UnitChange → Leads → Leads
+leads_with change leads = put lead_key_cmp change.key change.term (beside_former change.former leads)
+
+-- what is registered of units after a row of units
+abbrev pub with_unit : UnitRow → RegistrationsView → RegistrationsView
+with_unit r registered =
+    let change = unit_change registered r in
+    record {
+      units = put bytes_cmp r.unit change.registration registered.units;
+      leads = leads_with change registered.leads;
+    }

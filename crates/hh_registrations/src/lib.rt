@@ -1,0 +1,14 @@
+//! The registrations of units: which account leads a unit from which date to which.
+//!
+//! `Registrations` keeps what rows of units make of their units, one row after the other:
+//! `Registrations::change_of` says what a row changes, `Registrations::put` changes exactly that,
+//! or nothing if memory is refused, and `Registrations::registered_lead_on` gives the account
+//! that leads a unit on a date. It takes each row as it comes, accepted or not. No office keeps
+//! registrations yet.
+#![tactic(auto)]
+
+mod registrations;
+mod unit_change;
+
+pub use registrations::Registrations;
+pub use unit_change::{FormerLead, UnitChange};

@@ -1,0 +1,6 @@
+mod Examples
+pub mod LeadLaws
+pub mod LookBackLaws
+pub mod MarkLaws
+pub mod RowFacts
+pub mod SubsidiaryLaws

@@ -1,0 +1,2 @@
+pub mod RegistrationHistory
+pub mod SuccessionRefusals

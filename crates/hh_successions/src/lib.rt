@@ -1,0 +1,16 @@
+//! The rule of rows by which a unit may change its lead account at a date, and what holds of each
+//! history of rows that it accepts.
+//!
+//! The account that leads a unit on a date is that of the last row of the unit whose range holds
+//! the date, and none leads it if no row does (`leads_look_back`, `units_look_back`). One more
+//! row changes who leads a unit on none but the row's own dates (`leads_stay`). All rows of a
+//! unit have the same mark (`marks_alike`). A reallocation in force is never to the account that
+//! leads its unit on its date (`led_by_another`). What is registered follows the rows one by one
+//! (`registers_row_by_row`). No office refuses by this rule yet.
+#![tactic(auto)]
+
+mod histories;
+
+pub use histories::{
+    leads_look_back, leads_stay, led_by_another, marks_alike, registers_row_by_row, units_look_back,
+};
