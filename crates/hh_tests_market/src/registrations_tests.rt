@@ -22,10 +22,7 @@ fn row_from(lead: &[u8], from: &[u8]) -> Option<UnitRow> {
 }
 
 /// What is registered after rows of S1 with these lead accounts and first dates, if they are rows.
-fn registered(
-    alloc: Global,
-    rows: &[(&[u8], &[u8])],
-) -> Result<Option<Registrations>, AllocError> {
+fn registered(alloc: Global, rows: &[(&[u8], &[u8])]) -> Result<Option<Registrations>, AllocError> {
     let mut registrations = Registrations::new(alloc);
     for (lead, from) in rows {
         let Some(row) = row_from(lead, from) else {
