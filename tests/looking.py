@@ -11,6 +11,7 @@ import tempfile
 import unittest
 
 from kept_offices import unpack
+from office_tables import creations
 from programs import HOME
 from test_desk import EARLY, OPERATOR, text_of
 from test_documents import BLOCK
@@ -18,7 +19,7 @@ from test_week import Peer, is_late, midnight, periods
 
 from look import commands
 
-MADE = re.findall(r'"(CREATE TABLE [^"]*)"', (HOME / "crates/hh_sqlrows/src/make.rt").read_text(encoding="utf-8"))
+MADE = creations()
 
 
 def look(*words):

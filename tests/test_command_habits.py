@@ -193,15 +193,15 @@ class Shown(AtATerminal):
         self.assertEqual((self.room / "output").read_bytes(), b"hello\n")
 
     def test_what_is_read_and_written(self):
-        """First a part of the file is read, and then all."""
+        """First a part of the file is read, and then all. A busy machine may show less of the part first."""
         with open(self.office, "wb") as file:
             file.truncate(80_000_000)
         self.on_office("load", "read=40000000", "wait=4", "read=60000000", "wait=2", "keep=7000000", "wait=2", "write=hello|")
         self.ends(0, "hello")
         told = b"|".join(self.told())
-        reading = rb"settle: reading the file, [0-9]+ s, 4[0-9]\.[0-9] MB of 80\.0 MB"
+        less, reading = (rb"settle: reading the file, [0-9]+ s, %b\.[0-9] MB of 80\.0 MB" % read for read in (b"[0-9]+", b"4[0-9]"))
         working, writing = rb"settle: at work, [0-9]+ s", rb"settle: at work, [0-9]+ s, 7\.0 MB written"
-        self.assertRegex(told, rb"\A%b(\|%b)*(\|%b)+(\|%b)+\Z" % (reading, reading, working, writing))
+        self.assertRegex(told, rb"\A(%b\|)*%b(\|%b)*(\|%b)+(\|%b)+\Z" % (less, reading, reading, working, writing))
 
     def test_lines_of_a_script(self):
         acts = "write=one|", "wait=1", "write=two|three|", "wait=3", "write=four|", "wait=1", "tell=five|"
@@ -359,9 +359,9 @@ class ShownOfAScript(AtATerminal):
         self.does("read=40000000", "wait=4", "read=60000000", "wait=2")
         self.begin(*self.at_a_file)
         self.ends(0)
-        reading, *rest = self.stages()
-        self.assertRegex(reading, r"\Areading the file, [0-9]+ s, 4[0-9]\.[0-9] MB of 80\.0 MB\Z")
-        self.assertEqual(rest[-1], FIRST[0])
+        stages = self.stages()
+        self.assertRegex("|".join(stages), r"(\A|\|)reading the file, [0-9]+ s, 4[0-9]\.[0-9] MB of 80\.0 MB\|")
+        self.assertEqual(stages[-1], FIRST[0])
 
     def test_a_file_that_has_grown(self):
         """After a line was answered its file was read, although it may have more bytes by now than were read."""

@@ -66,7 +66,7 @@ class Copies(Looking):
         """Its bytes, times and files; whatever is asked. No folder stays behind."""
         database = self.kept("market")
         before = state_of(database)
-        with unittest.mock.patch("tempfile.tempdir", str(self.room)):
+        with unittest.mock.patch.dict(os.environ, TMPDIR=str(self.room)):
             for words in [*SHOWING, ("snapshot", self.room / "copy.db")]:
                 look(*asked(words, database))
                 self.assertEqual(state_of(database), before, words)
@@ -336,6 +336,7 @@ class Refused(Looking):
             ("statement", "--db", "no.db", "CITYSUP-P", DAY, "2024-06-30"),
             ("postings", "--db", "no.db", DAY, "SF", "--csv", "--hledger"),
             ("page", "--db", "no.db", DAY),
+            ("page", "--db", "no.db", DAY, "2024-06-30"),
             ("check", "--db", "no.db", "rows", "file.csv"),
             ("preview", "--db", "no.db", "--at", "noon", DAY, "SF"),
             ("when",),

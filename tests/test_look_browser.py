@@ -134,7 +134,7 @@ def unfiltered(kind, line, before, size):
 
 
 class Pages(Looking):
-    """R1 of the example market."""
+    """R1 of the example market, and the example week."""
 
     @unittest.skipIf(CHROMIUM is None, "there is no chromium")
     def setUp(self):
@@ -159,6 +159,20 @@ class Pages(Looking):
         self.in_the_picture()
         self.unfolded()
         self.on_paper()
+
+    def test_dates(self):
+        """The runs of a week: their picture, and statements with a line for each date."""
+        status, text, told = look("page", "--db", self.kept("week"), "2024-10-01", "2024-10-31")
+        self.assertEqual((status, told), (0, ""))
+        self.path.write_text(text, encoding="utf-8")
+        self.assertEqual(set(self.browser.show(self.path)), {self.path.as_uri()})
+        self.assertEqual(self.browser.complaints(), [])
+        self.assertEqual(self.texts()[0], "Runs of 2024-10-21 to 2024-10-27")
+        self.assertLessEqual(self.browser.find("document.documentElement.scrollWidth"), WIDTH)
+        self.in_the_picture()
+        self.browser.find("document.querySelector('label[for=\"of-CITYSUP-C\"]').click()")
+        rows = [line.split("\t") for line in self.texts() if line.startswith("2024-10-") and line.count("\t") == 9]
+        self.assertEqual([row[1] for row in rows], ["SF", "SF", "SF", "R1", "SF", "SF", "SF"])
 
     def on_the_screen(self):
         lines = self.texts()

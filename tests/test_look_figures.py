@@ -3,6 +3,7 @@ over offices that are drawn at random. All figures beside them are worked out in
 of `bench/peer_office.py`. A number that is changed in an office's file is found."""
 import contextlib
 import csv
+import gc
 import io
 import itertools
 import os
@@ -15,6 +16,7 @@ import subprocess
 import time
 import unittest
 import unittest.mock
+import weakref
 from fractions import Fraction
 
 from looking import Looking, MadeOffice, RandomOffice, changing, look
@@ -24,7 +26,7 @@ from test_settlement import energy
 from test_versions import PRINTED
 from test_worked_periods import FIRST, SECOND, figures, rows_of_files
 
-from look import beside, office, rules
+from look import beside, office, recount, rules
 from look import figures as texts
 
 SEEDS = range(40 if IS_LONG else 10)
@@ -64,8 +66,25 @@ TOLD = {
 COLUMNS = "credited balancing contracts imbalance".split()
 
 
+# The figures of a statement, as `why` shows each; what is taken off has the other sign.
+SHOWN = {
+    "credited": (1, r"Credited energy +(\S+) MWh"),
+    "balancing": (-1, r"Balancing volume, taken off +(\S+) MWh"),
+    "contracts": (-1, r"Contracts, sold less bought, taken off +(\S+) MWh"),
+    "imbalance": (1, r"Imbalance +(\S+) MWh, (?:long|short|in balance)"),
+    "charge": (1, r"Charge: .* (\S+)"),
+    "share": (1, r"Share of the residual, which is \S+ +(\S+)"),
+}
+
+
 def number(text):
     return int(re.sub(r"[,.£]", "", text))
+
+
+def shown_figures(lines):
+    """The figures of an account in a period, in the smallest units."""
+    text = "\n".join(lines)
+    return {name: sign * number(re.search(rf"(?m)^{form}$", text)[1]) for name, (sign, form) in SHOWN.items()}
 
 
 class Rules(unittest.TestCase):
@@ -281,6 +300,25 @@ class Kept(Looking):
         lines = self.shows("statement", "--db", self.kept("week"), "NORTHGEN-P", "2024-10-21", "2024-10-27", "R1")
         self.assertEqual([line.split()[:2] for line in lines[3:4]], [["2024-10-24", "R1"]])
 
+    def test_the_rows_of_a_date_do_not_stay(self):
+        """Of a range of dates, though nothing is collected that holds itself."""
+        gc.disable()
+        self.addCleanup(gc.enable)
+        database, held = self.kept("week"), []
+        made = recount.Recount.__init__
+
+        def init(self, *words):
+            held.append(weakref.ref(self))
+            made(self, *words)
+            tally.append(sum(one() is not None for one in held))
+
+        with unittest.mock.patch.object(recount.Recount, "__init__", init):
+            for words in ("statement", "--db", database, "CITYSUP-C"), ("page", "--db", database):
+                tally = []
+                self.assertEqual(look(*words, "2024-10-01", "2024-10-31")[0], 0)
+                self.assertGreaterEqual(len(tally), 7)
+                self.assertLessEqual(max(tally), 2)  # those of a date
+
     def test_a_journal(self):
         """Its amounts are the postings and sum to zero; `hledger` and `ledger` take it, if they are there."""
         status, out, _ = look("postings", "--db", self.kept("week"), "2024-10-24", "R1", "--hledger")
@@ -328,6 +366,20 @@ class AtRandom(Looking):
         self.assertRegex("\n".join(lines), rf"\nImbalance +{re.escape(right['imbalance'])} MWh")
 
     csv = Kept.csv
+
+    def test_why_of_each_statement(self):
+        """Of each account in each period of each run: its figures are the peer's, and all follows."""
+        draw, asked = random.Random(7), 0
+        for seed in range(OFFICES if not IS_LONG else 10):
+            made = RandomOffice(self.room / f"{seed}.db", seed)
+            for kind in made.runs:
+                rows = list(csv.DictReader(io.StringIO(made.results(made.date, kind))))
+                for row in rows if IS_LONG else draw.sample(rows, 4):
+                    lines = self.shows("why", "--db", made.path, row["account"], made.date, kind, row["period"])
+                    self.assertEqual(shown_figures(lines), {name: number(row[name]) for name in SHOWN}, (seed, kind, row))
+                    self.assertRegex(lines[-1], r"^All figures follow from the rows (that \w\w used|of the accepted files)\.$")
+                    asked += 1
+        self.assertGreater(asked, 5_000 if IS_LONG else 8)
 
     def test_compare(self):
         """The changes of all accounts are the postings, and sum to zero. Each cause is a row of a file of after the first run."""

@@ -11,9 +11,13 @@ from programs import HOME
 from test_desk import DAY
 from test_versions import PRINTED
 
+from look import clock, picture
+
 SVG = "{http://www.w3.org/2000/svg}"
 LONG, SHORT = "#1f6fb4", "#d5661a"  # as in examples/week/week.svg
 MWH = 10**10
+NAME = "party || '-' || substr('PC', side + 1, 1)"  # of an account's row
+SUMS = "sum(credited), sum(balancing), sum(contracts), sum(imbalance), sum(charge), sum(share)"
 # A law of the page that doesn't hold when a row of the example market's office is changed.
 LAWS = {
     "results SET charge = charge + 1 WHERE kind = 1 AND period = 3 AND party = 'CITYSUP' AND side = 0": "Charges and shares sum to zero "
@@ -38,11 +42,13 @@ def number(text):
 class Page:
     """What can be read off a page, which is XML too."""
 
-    def __init__(self, text):
+    def __init__(self, text, before=0):
+        """`before` are the tables above that of the accounts."""
         self.text = text
         self.root = xml.etree.ElementTree.fromstring(text.partition("\n")[2])
         self.laws = [(item.get("class"), "".join(item.itertext())) for item in self.root.iter("li")]
         tables = [[self.cells(row) for row in table.iter("tr")] for table in self.root.iter("table")]
+        self.before, tables = tables[:before], tables[before:]
         self.accounts = {row[0]: row[1:] for row in tables[0][1:]}
         names = [section.get("id") for section in self.root.iter("section")]
         self.statements = dict(zip(names, (table[1:] for table in tables[1:]), strict=True))
@@ -56,9 +62,9 @@ class Page:
         """The heights that the picture has for an account, or for the residual, by period, and their colours."""
         found = {}
         for part in self.root.iter(f"{SVG}rect"):
-            whose, period, told = re.fullmatch(r"(\S+), period (\d+): (.*)", part[0].text).groups()
+            whose, period, told = re.fullmatch(r"(\S+), (?:period (\d+)|[-\d]{10}): (.*)", part[0].text).groups()
             if whose == name:
-                found[int(period)] = float(part.get("height")), part.get("fill"), told
+                found[int(period or len(found) + 1)] = float(part.get("height")), part.get("fill"), told
         return found
 
 
@@ -180,6 +186,54 @@ class Pages(Looking):
         self.assertEqual((page.statements, page.accounts), ({}, {}))
         self.assertIn("Nothing but zeros: IDLE-P, IDLE-C.", page.words)
         self.assertIn("No account was out of balance.", page.words)
+
+    def test_dates(self):
+        """Of each date the sums of what the program has kept, and of all dates their sums; each step is a date's. A party that has
+        no row of a date has no line of it."""
+        database = self.kept("week")
+        page = Page(look("page", "--db", database, "2024-10-01", "2024-10-31")[1], before=1)
+        self.assertEqual(page.root.find("body/h1").text, "Runs of 2024-10-21 to 2024-10-27")
+        self.assertEqual({mark for mark, _ in page.laws}, {"yes"})
+        with changing(database) as made:
+            latest = "WHERE (day, kind) IN (SELECT day, max(kind) FROM runs GROUP BY day)"
+            runs = made.execute(f"SELECT periods, accounts, residual, postings FROM runs {latest} ORDER BY day").fetchall()
+            sums = made.execute(f"SELECT {NAME}, day, {SUMS} FROM results {latest} GROUP BY party, side, day").fetchall()
+            moved = made.execute(f"SELECT {NAME}, sum(pence) FROM postings {latest} GROUP BY party, side").fetchall()
+        ((_, *dates),) = page.before
+        self.assertEqual([(*map(number, cells[2:]),) for cells in dates], runs)
+        found = {(name, cells[0]): cells[2:] for name, statement in page.statements.items() for cells in statement}
+        for name, day, *kept in sums:
+            if not any(row[0] == name and any(row[2:]) for row in sums):
+                self.assertNotIn(name, page.statements)
+                continue
+            cells = found[name, clock.date_of(day)]
+            self.assertEqual([number(cell) for cell in cells[4:7]], [*kept[4:], sum(kept[4:])])
+            for cell, ticks in zip(cells[:4], kept):
+                self.assertAlmostEqual(float(cell.replace("\u2212", "-")), ticks / MWH, delta=0.00051)
+            self.assertEqual(len(page.steps(name)), sum(one == name and row[3] != 0 for one, _, *row in sums))
+        self.assertEqual({name: number(cells[6]) for name, cells in page.accounts.items() if cells[6]}, dict(moved))
+
+    def test_months_below_the_picture(self):
+        """Each is named once, and none so near to another that it would stand on it."""
+        for first in range(clock.day_of("2024-01-20"), clock.day_of("2024-02-05")):
+            steps = picture.steps_of_days(range(first, first + 60))
+            named = [(at, step.below[1]) for at, step in enumerate(steps) if step.below[1]]
+            self.assertEqual([month for _, month in named], sorted({step.name[:7] for step in steps}))
+            self.assertGreaterEqual(min(later - at for (at, _), (later, _) in zip(named, named[1:])), 4)
+            self.assertTrue(all(steps[at].name.startswith(month) for at, month in named))
+
+    def test_a_law_that_does_not_hold_of_a_date(self):
+        """It is marked of all dates, and the fault is told with its date."""
+        database = self.kept("week")
+        with changing(database) as made:
+            made.execute("UPDATE results SET charge = charge + 1 WHERE day = (SELECT max(day) FROM runs) AND period = 50")
+        status, out, err = look("page", "--db", database, "2024-10-20", "2024-10-31", "SF", "--account", "CITYSUP-C")
+        page = Page(out, before=1)
+        self.assertEqual(status, 1)
+        self.assertIn(("no", "\u2717 Charges and shares sum to zero in each period."), page.laws)
+        self.assertTrue(all(words.startswith("2024-10-27 SF: ") for mark, words in page.laws if mark == "no" and words[0] != "\u2717"))
+        self.assertIn("! 2024-10-27 SF: CITYSUP-C, period 50: the run has the charge", err)
+        self.assertEqual(list(page.statements), ["CITYSUP-C"])
 
     def test_a_law_that_does_not_hold(self):
         """It is marked, what doesn't follow is told, and the status is 1."""

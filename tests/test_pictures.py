@@ -86,7 +86,7 @@ class Pictures(unittest.TestCase):
             self.assertIn(name, self.specs.scope(Module(crate, (file,), False)))
         for relation, above, below in (
             ("hh_states.specs.Changes.TablesRepresent", "State", "tables_of"),
-            ("hh_sqlschema.specs.Holds.Holds", "Content", "IsOffice"),
+            ("hh_sqlrows.specs.Holds.Holds", "Content", "IsOfficeOf"),
         ):
             self.assertLessEqual({above, below}, {one.name for one in self.specs.names(self.specs.place(relation))})
         self.assertRegex(self.definition("hh_file_life.specs.Life.ReadAs"), r"HoldsDatabase .* × TreesHold .*\(tables_of ")

@@ -1,10 +1,11 @@
-"""docs/sql.md: the tables that it lists are those with which an office's database is made, and what its questions find in rows
-that are written into such tables."""
+"""docs/sql.md: the tables that it lists are those with which an office's database is made, those of the definitions, and those that
+the program takes for an office's; and what its questions find in rows that are written into such tables."""
 import datetime
 import re
 import sqlite3
 import unittest
 
+import office_tables
 from programs import HOME
 
 PAGE = (HOME / "docs" / "sql.md").read_text(encoding="utf-8")
@@ -21,16 +22,43 @@ def question(heading):
     return re.search(rf"(?s)^## {heading}\n.*?```sql\n(.*?)```", PAGE[PAGE.index(f"## {heading}\n") :])[1]
 
 
+class Tables(unittest.TestCase):
+    """Each column and each key is the same in the code, in the definitions and on the page."""
+
+    needs_programs = False
+
+    def test_of_the_definitions(self):
+        """Each is kept in the tree after that of the key of the table before it."""
+        self.assertEqual(list(office_tables.defined()), [(2 * at, table) for at, table in enumerate(office_tables.made())])
+
+    def test_of_an_office(self):
+        self.assertEqual(list(office_tables.known()), list(office_tables.defined()))
+
+    def test_of_the_page(self):
+        listed = [(table, NAME.findall(key), NAME.findall(others)) for table, key, others in TABLE.findall(PAGE)]
+        self.assertEqual(len(listed), 16)
+        made = ((table, key, [column for column, _ in columns if column not in key]) for table, columns, key in office_tables.made())
+        self.assertEqual(listed, list(made))
+
+    def test_as_sqlite_reads_them(self):
+        connection = sqlite3.connect(":memory:")
+        self.addCleanup(connection.close)
+        for statement, (table, columns, key) in zip(office_tables.creations(), office_tables.made(), strict=True):
+            with self.subTest(table):
+                connection.execute(statement)
+                read = connection.execute(f"PRAGMA table_info({table})").fetchall()
+                self.assertEqual([(column[1], office_tables.KINDS[column[2]]) for column in read], columns)
+                self.assertEqual([column[1] for column in sorted(read, key=lambda column: column[5]) if column[5]], key)
+
+
 class Questions(unittest.TestCase):
     needs_programs = False
 
     def setUp(self):
         """The tables as the program makes them."""
-        made = (HOME / "crates" / "hh_sqlrows" / "src" / "make.rt").read_text(encoding="utf-8")
-        self.statements = re.findall(r'"(CREATE TABLE [^"]*)"', made)
         self.connection = sqlite3.connect(":memory:")
         self.addCleanup(self.connection.close)
-        for statement in self.statements:
+        for statement in office_tables.creations():
             self.connection.execute(statement)
 
     def put(self, table, *rows):
@@ -39,16 +67,6 @@ class Questions(unittest.TestCase):
 
     def finds(self, heading, *rows):
         self.assertEqual(self.connection.execute(question(heading)).fetchall(), list(rows))
-
-    def test_the_tables(self):
-        self.assertEqual(len(self.statements), 16)
-        listed = TABLE.findall(PAGE)
-        self.assertEqual(len(listed), len(self.statements))
-        for table, key, others in listed:
-            with self.subTest(table):
-                columns = self.connection.execute(f"PRAGMA table_info({table})").fetchall()
-                self.assertEqual(NAME.findall(key), [column[1] for column in sorted(columns, key=lambda c: c[5]) if column[5]])
-                self.assertEqual(NAME.findall(others), [column[1] for column in columns if not column[5]])
 
     def test_credits(self):
         """Those of two periods are one row. Another run and another date are not included."""

@@ -163,6 +163,23 @@ fn hh_rows::keys::right: proved
         self.assertEqual({name for _, name in told}, {"open", "bare", "both"})
         self.assertLessEqual({("keys", "open"), ("keys", "bare"), ("Key", "bare")}, told)
 
+    def test_a_constant_belongs_to_the_function_that_gives_it(self):
+        """It is refused where a law that its `impl` gives is not proved, and not where that only waits for another proof."""
+        module, tables = script(), "tables::contracts"
+        folder = HOME / "crates" / "hh_sqlrows"
+        text = (folder / "src" / "tables" / "contracts.rt").read_text(encoding="utf-8")
+        for name, function in (("PUT", "put"), ("GROUP", "group"), ("ONE", "one"), ("ALL", "all"), ("UNDER", "under")):
+            place = module.giver_of(text, text.index(f"const {name}"))
+            self.assertEqual(module.function_at(text, place), ("Contracts", function))
+        self.assertIsNone(module.giver_of(text, text.index("const CREATION")))
+        self.assertIsNone(module.giver_of(text, text.index("impl OfficeTable")))
+        said = """\
+impl hh_sqlrows::tables::contracts::ContractsUnderSettlementDate: not proved; antt did not finish `Laws`, for what it cites
+impl hh_sqlrows::tables::contracts::ContractsOfficeTable: not proved; it waits for the proof of `put`
+impl hh_sqlrows::tables::contracts::ContractsListed: proved
+"""
+        self.assertEqual(set(module.told_of(folder, said)), {(tables, "under")})
+
     def test_one_that_waits_is_tried_by_itself(self):
         """A body among others may only wait for the proof of what it calls. By itself it is refused."""
         own = {file.name: file.read_text() for file in (HOME / "crates" / "hh_rows" / "src").iterdir()}

@@ -39,7 +39,7 @@ LEVELS = [
 ]
 RELATIONS = [
     ("hh_states/Changes TablesRepresent", "the machine reaches the state, and the tables are those that tables_of finds from it"),
-    ("hh_sqlschema/Holds Holds", "the rows of each table are those that the database has under its keys"),
+    ("hh_sqlrows/Holds Holds", "the rows of each table are those that the database has under its keys"),
     ("hh_file_life/Life HoldsDatabase", "the toolchain's crate sqlite reads the files as that database"),
 ]
 # Which tables the rows of each kind of file are put into. Each file is also kept in `files`.

@@ -129,6 +129,12 @@ def children_of(text):
     return {found[1] for found in map(CHILD.match, text.split("\n")) if found}
 
 
+class Constants(NamedTuple):
+    """The constants of a file of code, as definitions see them. They are values, and reach no definition."""
+
+    module: Module
+
+
 class Specs:
     """The definitions of the crates in a folder, as they are when they are asked for."""
 
@@ -175,7 +181,7 @@ class Specs:
         return found
 
     def place(self, path, through=()):
-        """What a path leads to: a definition, a type or a module. None where it leads out of these crates."""
+        """What a path leads to: a definition, a type or a module. None where it leads out of these crates, or to constants."""
         crate, _, rest = path.partition(".")
         if not (self.crates / crate).is_dir() or rest.partition(".")[0] != "specs":
             return None
@@ -184,7 +190,7 @@ class Specs:
         here = Module(crate, (), False)
         for part in rest.split(".")[1:]:
             here = self.part(here, part, (*through, path))
-        return here
+        return None if isinstance(here, Constants) else here
 
     def part(self, here, part, through):
         """What a name leads to in a module or a type."""
@@ -194,12 +200,18 @@ class Specs:
             return here  # a field of a record
         if here is None:
             return None
+        if isinstance(here, Constants):
+            if re.search(rf"(?m)^(?:pub(?:\(\w+\))? )?const {part}:", self.text(here.module)):
+                return here
+            raise Unresolved(f"no constant {part} in {self.path(here.module)}")
         inside = Module(here.crate, (*here.parts, part), here.declared)
         if here.declared:
             if part in self.types(here):
                 return self.types(here)[part]
             if self.text(inside) is not None:
                 return inside
+            if part == "TheConstants":
+                return Constants(here)
         elif not here.parts and part == "declared":
             return Module(here.crate, (), True)
         elif part in self.definitions(here):

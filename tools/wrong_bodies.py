@@ -30,6 +30,12 @@ BY_HAND = "must-fail-by-hand"
 KEPT = "incremental"
 # The type that a block is of, behind `for` where there is that word.
 IMPL = re.compile(r"(?m)^impl\b(?:[^{\n]* for)?(?:<[^{\n]*?>)? (\w+)")
+# A constant, with its name.
+CONSTANT = re.compile(r"(?m)^(?:pub(?:\(\w+\))? )?const (\w+):[^;]*;")
+# An `impl` of a trait: the trait with what it is given, and the type.
+IMPL_OF = re.compile(r"(?m)^impl\b(?:<[^{\n]*?>)? ([^{\n]+?) for (\w+)[^{]*\{")
+# What a check says of an `impl` one of whose laws isn't proved: the module, and the name that it has for the `impl`.
+UNPROVED_IMPL = re.compile(r"(?m)^impl \w+::([\w:]+)::(\w+): not proved; antt did not finish")
 # An error of a proof, with the lines that belong to it.
 PROOF_ERROR = re.compile(r"proofs/([\w/]+)/(?:Answers|Invariants|Proof)\.antt:\d+:\d+: error: ([^\n]*)((?:\n[ \t][^\n]*)*)")
 # What an error says of a proof that names what is not there, or that rests on what another error is on.
@@ -48,16 +54,25 @@ def function_at(text, place):
     return types[-1] if found[-1][1] and types else "", found[-1][3]
 
 
+def giver_of(text, place):
+    """Where the constant that is at a place is named by the body of a function. None if it is in no constant, or no body has it."""
+    constant = next((m for m in CONSTANT.finditer(text) if m.start() <= place < m.end()), None)
+    named = re.search(rf"(?m)^ +(?! |ghost )[^\n]*\b{constant[1]}\b", text[constant.end() :]) if constant else None
+    return constant.end() + named.end() if named else None
+
+
 def turned(crate, edit, texts=None):
     """The functions, each by its module, its type and its name, whose bodies an edit turns. It is refused by the last of
-    them: those before it prepare, as where a struct gets a field. What comes before any function, as an import, belongs
-    to none. `texts` are the files that edits have turned so far, and are turned further."""
+    them: those before it prepare, as where a struct gets a field. A constant belongs to the function that gives it. What
+    else comes before any function, as an import, belongs to none. `texts` are the files that edits have turned so far, and
+    are turned further."""
     found, texts = [], {} if texts is None else texts
     for file, old, new in pairs_of(edit):
         text = texts.get(file) or (HOME / "crates" / crate / file).read_text(encoding="utf-8")
         if text.count(old) != 1:
             raise ValueError(f"{edit.name}: its text occurs {text.count(old)} times in {file}, and not once")
-        function = function_at(text, text.index(old))
+        place = text.index(old)
+        function = function_at(text, giver_of(text, place) or place)
         if function:
             found.append((file.removeprefix("src/").removesuffix(".rt").replace("/", "::"), *function))
         texts[file] = text.replace(old, new)
@@ -116,15 +131,17 @@ def batch_of(crate, edit):
 
 
 def told_of(folder, said):
-    """The functions of which a check says that their bodies are not proved, by what it says of their lines and of their proofs: the
-    name of each behind its module, and behind its type, which may be in another module. No body was judged of one that only
-    waits for the proof of what it calls, nor of one whose proof only names what the body no longer has, or only proves what the body
-    no longer owes."""
+    """The functions of which a check says that their bodies are not proved, by what it says of their lines, of their proofs and of the
+    laws of the constants that they give: the name of each behind its module, and behind its type, which may be in another module.
+    No body was judged of one that only waits for the proof of what it calls, nor of one whose proof only names what the body no
+    longer has, or only proves what the body no longer owes."""
     for file, line, _ in re.findall(r"src/([\w/]+)\.rt:(\d+):\d+: ([^\n]*(?:not proved|error))", said):
         text = (folder / "src" / f"{file}.rt").read_text(encoding="utf-8")
         function = function_at(text, len("\n".join(text.split("\n")[: int(line)])))
         if function:
             yield file.replace("/", "::"), function[1]
+    for module, name in UNPROVED_IMPL.findall(said):
+        yield from givers_of((folder / "src" / f"{module.replace('::', '/')}.rt").read_text(encoding="utf-8"), module, name)
     errors = PROOF_ERROR.findall(said)
     proofs = {
         path.replace("/", "::")
@@ -140,6 +157,18 @@ def told_of(folder, said):
         yield above, name
         yield module, name
         yield kind, name
+
+
+def givers_of(text, module, name):
+    """The functions that give constants, in the `impl` for which a check has this name: a law of it isn't proved, and says of these
+    constants what no clause says."""
+    blocks = [m for m in IMPL_OF.finditer(text) if m[2] + re.sub(r"\W", "", m[1]) == name]
+    for block in blocks:
+        end = text.index("\n}", block.start())
+        for constant in CONSTANT.finditer(text):
+            giver = giver_of(text, constant.start())
+            if giver and block.end() < giver < end:
+                yield module, function_at(text, giver)[1]
 
 
 def restore(copy, crate):

@@ -2,15 +2,18 @@
 the same sum are the same. So a command waits for one thing where it would wait for two, and rows are looked at one by one only where
 something doesn't follow."""
 
-import hashlib
 import marshal
 import os
-import signal
 
 
 def sum_of(rows):
     """A sum of a list of plain values. Other values have another."""
+    import hashlib  # which only large offices need
+
     return hashlib.blake2b(marshal.dumps(rows, 2), digest_size=32).digest()  # which has no references, and so one form
+
+
+KILL = 9  # the signal
 
 
 class Beside:
@@ -42,7 +45,7 @@ class Beside:
         os.close(self.found)
         self.found = None
         if self.process is not None:
-            os.kill(self.process, signal.SIGKILL)
+            os.kill(self.process, KILL)
             os.waitpid(self.process, 0)
 
 

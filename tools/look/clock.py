@@ -10,6 +10,7 @@ DAY, HOUR, PERIOD, MINUTE = 86_400, 3_600, 1_800, 60
 MARCH, OCTOBER = 3, 10
 
 
+@functools.cache
 def day_of(text):
     """The number of a date's day since 1970-01-01. A text that is no date, or one that isn't accepted, is a ValueError."""
     if len(text) != 10:

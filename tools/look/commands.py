@@ -1,6 +1,7 @@
 """The commands of `look`: which there are, and how one is asked."""
 
 import argparse
+import functools
 import importlib
 import os
 import sys
@@ -11,6 +12,7 @@ from .telling import FAULT, INTERRUPTED, WRONG_WORDS, Fault, WrongWords
 ABOUT = "Looks into an office's file, and never changes it. It copies the file and its log, and reads the copy."
 PAGE = "docs/look.md shows each command with what it prints."
 STATUSES = "Exit status: 0 done, 1 a fault of the file or of what it shows, 2 wrong words."
+WIDTH = 78  # of help
 # Each is in a module of its name.
 COMMANDS = {
     "status": "dates with their prices, readings and runs, and what may be done next",
@@ -23,7 +25,7 @@ COMMANDS = {
     "check": "all rows of a file that would be refused, by asking the program over a copy",
     "preview": "what a run would answer and post, by asking the program over a copy",
     "snapshot": "a copy of the office, also while `settle serve` runs",
-    "page": "a run as a page to read and to print, in HTML",
+    "page": "a run, or the runs of several dates, as a page to read and to print, in HTML",
 }
 
 
@@ -33,13 +35,21 @@ def module_of(command):
 
 def asked_by(words):
     """What the words ask. Only the module of the command that they begin with is read."""
-    parser = argparse.ArgumentParser("look", description=f"{ABOUT} {PAGE}", epilog=STATUSES, allow_abbrev=False)
+    if words and words[0] in COMMANDS:
+        command = parser_of(f"look {words[0]}", COMMANDS[words[0]])
+        module_of(words[0]).take_words(command)
+        return command.parse_args(words[1:], argparse.Namespace(command=words[0]))
+    parser = parser_of("look", f"{ABOUT} {PAGE}")
     commands = parser.add_subparsers(dest="command", metavar="COMMAND", required=True)
     for name, told in COMMANDS.items():
-        command = commands.add_parser(name, help=told, description=told, epilog=STATUSES, allow_abbrev=False)
-        if words[:1] == [name]:
-            module_of(name).take_words(command)
+        commands.add_parser(name, help=told)
     return parser.parse_args(words)
+
+
+def parser_of(name, told):
+    """A reader of words. The width of its help is fixed, since asking for the terminal's takes longer than all else that it does."""
+    form = functools.partial(argparse.HelpFormatter, width=WIDTH)
+    return argparse.ArgumentParser(name, description=told, epilog=STATUSES, allow_abbrev=False, formatter_class=form)
 
 
 def told_of(asked):

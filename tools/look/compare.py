@@ -44,7 +44,7 @@ class Compared:
 
     def changed(self):
         """By how much each account's sums have changed, where they have."""
-        sums = [sums_of(recount.results) for recount in (self.one, self.other)]
+        sums = [recount.account_sums for recount in (self.one, self.other)]
         found = {}
         for account in sorted(sums[0].keys() | sums[1].keys()):
             before, after = (one.get(account, NOTHING) for one in sums)
@@ -100,15 +100,6 @@ class Compared:
     def closing(self):
         posted = " Each posting is the net of the second less that of the first." if self.is_next else ""
         return concluded(self.faults(), f"All figures of both runs follow from the accepted files.{posted}")
-
-
-def sums_of(results):
-    """Each account's figures, summed over the periods."""
-    found = {}
-    for accounts in results.values():
-        for account, figures in accounts.items():
-            found[account] = Figures(*map(sum, zip(found.get(account, NOTHING), figures)))
-    return found
 
 
 def rows_between(one, other):

@@ -8,15 +8,14 @@ has a beginning of what it has now, and what isn't committed in it doesn't count
 import collections
 import contextlib
 import os
-import shutil
 import stat
-import tempfile
 import time
 
 from .telling import Fault
 
 LOG, JOURNAL = "-wal", "-journal"
 HEADER = 32  # bytes of a log
+MOST = 1 << 30  # bytes that the system copies at once
 PATIENCE, PAUSE = 20.0, 0.01  # seconds
 OURS_ALONE = 0o600  # since the copy has all keys
 
@@ -27,10 +26,23 @@ Seen = collections.namedtuple("Seen", "number size changed header")
 @contextlib.contextmanager
 def copied(path):
     """The path of a copy in a folder of its own, which is gone at the end."""
-    with tempfile.TemporaryDirectory(prefix="look-") as folder:
+    folder = new_folder()
+    try:
         copy = os.path.join(folder, "office.db")
         copy_office(path, copy)
         yield copy
+    finally:
+        for place, _, names in os.walk(folder, topdown=False):
+            for name in names:
+                os.unlink(os.path.join(place, name))
+            os.rmdir(place)
+
+
+def new_folder():
+    """A folder that nobody else may read, where TMPDIR says or in /tmp."""
+    folder = os.path.join(os.environ.get("TMPDIR") or "/tmp", f"look-{os.urandom(8).hex()}")
+    os.mkdir(folder, 0o700)
+    return folder
 
 
 def copy_office(path, copy):
@@ -92,6 +104,7 @@ def copy_file(path, copy):
         except FileNotFoundError:
             return
         with source, open(os.open(copy, os.O_WRONLY | os.O_CREAT | os.O_EXCL, OURS_ALONE), "wb") as made:
-            shutil.copyfileobj(source, made, 1 << 20)
+            while os.sendfile(made.fileno(), source.fileno(), None, MOST):
+                pass
     except OSError as error:
         raise Fault(f"{error.filename or copy}: {error.strerror}") from None

@@ -1,102 +1,75 @@
 """What a run is settled from: what is registered and in force for a day after the files up to some place."""
 
-import collections
-import copy
+import functools
 
 from . import clock, rules
 from .accepted import CONTRACTS, METERS, PARTIES, PRICES, READ, REALLOCATIONS, REGISTERED, UNITS
+from .columns import NOTHING
 from .figures import KWH, PERCENT, TLM, decimal, per_mwh
 from .office import name_of
 
 OF_DAY = tuple(READ)
 
 
+def inputs_of(accepted):
+    """What is in force after all files."""
+    return Inputs(accepted, max(accepted.files, default=0), {kind: accepted.in_force(kind) for kind in (*READ, *REGISTERED)})
+
+
 class Inputs:
     """The rows in force, which may be taken back file by file."""
 
-    def __init__(self, accepted):
-        self.accepted, self.day = accepted, accepted.day
-        self.place = max(accepted.files, default=0)
-        self.values = {kind: accepted.in_force(kind) for kind in (*READ, *REGISTERED)}
+    def __init__(self, accepted, place, held):
+        self.accepted, self.day, self.place, self.held = accepted, accepted.day, place, held
 
-    def copy(self):
-        """The same rows, which may be taken back apart from these."""
-        other = copy.copy(self)
-        other.values = {kind: held_apart(periods) for kind, periods in self.values.items()}
-        return other
+    def take_back(self):
+        """What was in force before the last of these files; and the periods that this concerns, in which None stands for all."""
+        file = self.accepted.files[self.place]
+        held = {**self.held, file.kind: self.accepted.in_force(file.kind, self.place)}
+        before = Inputs(self.accepted, max((other for other in self.accepted.files if other < self.place), default=0), held)
+        concerned = {period for period in file.blocks if not before.of(file.kind, period).is_same(self.of(file.kind, period))}
+        return before, concerned
 
-    def take_back(self, place):
-        """Takes back what the file at a place changed. Returns the periods that this concerns, in which None stands for all."""
-        file = self.accepted.files[place]
-        before, held, concerned = self.accepted.in_force(file.kind, place), self.values[file.kind], set()
-        for period, key, value in file.rows():
-            old = before[period].get(key)
-            if old != value:
-                concerned.add(period)
-            if old is None:
-                held[period].pop(key, None)
-            else:
-                held[period][key] = old
-        self.place = max((other for other in self.accepted.files if other < place), default=0)
-        return concerned
+    def of(self, kind, period=None):
+        """The rows of a kind in a period."""
+        return self.held[kind].get(period, NOTHING)
 
-    @property
-    def parties(self):
-        return self.values[PARTIES][None]
-
-    @property
+    @functools.cached_property
     def units(self):
-        return {name: rules.Unit._make(row) for name, row in self.values[UNITS][None].items()}
+        return {name: rules.Unit._make(row) for name, row in self.of(UNITS).values.items()}
 
     def accounts(self):
         """The accounts of the day, in their order."""
-        there = sorted(party for party, (first, last) in self.parties.items() if first <= self.day <= last)
+        there = sorted(party for party, (first, last) in self.of(PARTIES).values.items() if first <= self.day <= last)
         return [(party, side) for party in there for side in (0, 1)]
 
+    @functools.cached_property
     def units_of_day(self):
         return {name: unit for name, unit in sorted(self.units.items()) if unit.first <= self.day <= unit.last}
 
     def given(self, period):
         """The reallocations of a period, by unit and account."""
         found = {}
-        for (unit, account), part in self.values[REALLOCATIONS][period].items():
+        for (unit, account), part in self.of(REALLOCATIONS, period).values.items():
             found.setdefault(unit, {})[account] = part
         return found
 
     def contracts(self, period):
         """Each reference with its seller, its buyer and its volume, in the order of references."""
-        return [(reference, *row) for reference, row in sorted(self.values[CONTRACTS][period].items())]
-
-    def readings(self, period):
-        """The metered volume, the multiplier and the balancing volume by unit."""
-        return self.values[METERS][period]
+        return [(reference, *row) for reference, row in sorted(self.of(CONTRACTS, period).values.items())]
 
     def reading(self, period, unit):
-        row = self.readings(period).get(unit)
+        row = self.of(METERS, period).values.get(unit)
         return None if row is None else rules.Reading._make(row)
 
     def price(self, period):
-        return self.values[PRICES][period].get(None)
+        (price,) = self.of(PRICES, period).values.get(None, (None,))
+        return price
 
     def settled(self, periods):
         """What each of these periods settles to, by its number."""
-        accounts, units = self.accounts(), self.units_of_day()
-        return {
-            period: rules.settle(
-                accounts,
-                units,
-                self.readings(period),
-                self.given(period),
-                self.values[CONTRACTS][period].values(),
-                self.price(period),
-            )
-            for period in periods
-        }
-
-
-def held_apart(periods):
-    """The same values by period and key, in dictionaries of their own."""
-    return collections.defaultdict(dict, {period: dict(held) for period, held in periods.items()})
+        market, kinds = rules.Market(self.accounts(), self.units_of_day), (METERS, REALLOCATIONS, CONTRACTS)
+        return {period: market.settle(*(self.of(kind, period) for kind in kinds), self.price(period)) for period in periods}
 
 
 def named(kind, key):
@@ -120,7 +93,7 @@ def valued(kind, value):
         told = f"{decimal(metered, KWH)} MWh x {decimal(tlm, TLM)}"
         return f"{told}, balancing {decimal(balancing, KWH)}" if balancing else told
     if kind == PRICES:
-        return per_mwh(value)
+        return per_mwh(*value)
     if kind == CONTRACTS:
         seller, buyer, kwh = value
         pair = f"{name_of(seller)} to {name_of(buyer)}" if seller and buyer else "no seller and buyer"

@@ -14,6 +14,7 @@ from .telling import Fault
 
 VERSION = 1  # of the tables that are read here
 LARGE = 1 << 22  # bytes of an office's file
+MAPPED = 1 << 30  # bytes of a copy that are read without a call for each page
 KINDS = ("SF", "R1", "R2", "R3", "RF", "DF")
 SIDES = "PC"
 
@@ -52,6 +53,7 @@ def opened_copy(copy, path):
     try:
         connection = sqlite3.connect(copy, isolation_level=None)
         connection.execute("PRAGMA query_only = ON")
+        connection.execute(f"PRAGMA mmap_size = {MAPPED}")
         yield Office(connection, path, copy, works)
     except sqlite3.Error as error:
         raise Fault(f"{path}: it can't be read as an office's file: {error}") from None
@@ -127,12 +129,22 @@ class Office:
     # What is registered
 
     def parties(self):
-        return {party: Party(*days) for party, *days in self.rows("SELECT party, day_from, day_to FROM parties ORDER BY party")}
+        return {party: Party(*days) for party, *days in self.party_rows()}
+
+    def party_rows(self):
+        """A party and its first and last day, in the order of parties."""
+        return self.rows("SELECT party, day_from, day_to FROM parties ORDER BY party")
 
     def units(self):
         """All units by their names, in the order of their names."""
+        return {unit: Unit((party, side), bool(mark), *days) for unit, party, side, mark, *days in self.unit_rows()}
+
+    def unit_rows(self):
+        """A unit, the party and the side of its lead account, whether it is an interconnector's, and its first and last day."""
         rows = self.rows("SELECT unit, party, side, interconnector, day_from, day_to FROM units ORDER BY unit")
-        return {unit: Unit(self.account(party, side), bool(mark), *days) for unit, party, side, mark, *days in rows}
+        for _, party, side, *_ in rows:
+            self.account(party, side)
+        return rows
 
     def references(self):
         """The seller and the buyer of each reference."""

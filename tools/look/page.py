@@ -1,18 +1,19 @@
-"""`look page`: a run as one page in HTML to read, to print and to keep. It has no script and asks for nothing from the net, and what it
-shows is recomputed when it is written."""
+"""`look page`: a run as one page in HTML to read, to print and to keep, or the runs of several dates. It has no script and asks for
+nothing from the net, and what it shows is recomputed when it is written."""
 
 import functools
 import html
 
 from . import clock
+from .accepted import METERS
 from .figures import counted, decimal, near, pounds, rounded
 from .office import KINDS, name_of
-from .picture import LONG, SHORT, drawn
+from .picture import LONG, SHORT, drawn, steps_of_day
 from .postings import posted_by
 from .statement import account_is_there
-from .telling import DONE, FAULT, Fault, Told
+from .telling import DONE, FAULT, Fault, Told, WrongWords
 from .when import kind_of_day
-from .words import account, takes_date, takes_kind, takes_office
+from .words import account, date, kind_or, taken, takes_date, takes_office
 
 STYLE = f"""
 body{{font:14px/1.45 Verdana,"DejaVu Sans",sans-serif;max-width:72em;margin:2em auto;padding:0 1em;color:#1a1a1a;background:#fff}}
@@ -40,15 +41,28 @@ MINUS = "\u2212"
 def take_words(command):
     takes_office(command)
     takes_date(command)
-    takes_kind(command)
+    told = "the run of a date, or the last date of several; of several dates each has its latest run, if no kind is given"
+    command.add_argument("rest", nargs="*", default=[], type=kind_or(date), metavar="KIND TO", help=told)
     command.add_argument("--account", type=account, metavar="ACCOUNT", help="the statement of this account alone")
+
+
+def judge(asked):
+    asked.kind, asked.last = taken(asked.rest)
+    if asked.kind is None and asked.last is None:
+        raise WrongWords("the KIND of the run, or TO, is missing")
+    if asked.last is not None and asked.last < asked.date:
+        raise WrongWords("TO is before the first date")
 
 
 def tell(office, asked):
     """The page, and a fault if a law that it shows doesn't hold."""
-    kind = office.run(asked.date, asked.kind)
     if asked.account is not None:
         account_is_there(office, asked.account)
+    if asked.last is not None:
+        from . import page_of_dates
+
+        return page_of_dates.tell(office, asked)
+    kind = office.run(asked.date, asked.kind)
     posted = posted_by(office, asked.date, kind)
     page = Page(posted, asked.account)
     return Told(page.lines(), FAULT if posted.faults() else DONE, posted.closing() if posted.faults() else ())
@@ -68,6 +82,39 @@ def row_of(cells, tag="td"):
     return f"<tr>{''.join(f'<{tag}>{cell}</{tag}>' for cell in cells)}</tr>"
 
 
+def cash_of(row):
+    """The charge, the share, and what is paid."""
+    return map(pounds, (row.charge, row.share, row.charge + row.share))
+
+
+def head_of(title):
+    """What is above a page's first words."""
+    return [
+        '<!DOCTYPE html>\n<html lang="en"><head><meta charset="utf-8"/>',
+        f'<meta http-equiv="Content-Security-Policy" content="{POLICY}"/>',
+        f'<meta name="viewport" content="width=device-width"/><title>{title}</title><style>{STYLE}</style></head><body>',
+        f"<h1>{title}</h1>",
+    ]
+
+
+def ticked(laws, faults, since):
+    """What holds, or doesn't, with all faults and with what came later."""
+    lines = ["<h2>What was recomputed for this page</h2>", "<ul>"]
+    for said, holds in laws:
+        lines.append(f'<li class="{"yes" if holds else "no"}"><b>{"✓" if holds else "✗"}</b> {said}</li>')
+    lines += [f'<li class="no">{html.escape(fault)}</li>' for fault in faults]
+    return [*lines, "</ul>", *(f"<p>{html.escape(line)}</p>" for line in since)]
+
+
+def folded(one, net, is_open, rows):
+    """An account's statement, which is folded on the screen and printed open."""
+    name = shown_name(one)
+    told = f"{name}: {'pays' if net >= 0 else 'is paid'} {pounds(abs(net))}"
+    mark = ' checked="checked"' if is_open else ""
+    head = f'<section id="{name}"><input class="fold" type="checkbox" id="of-{name}"{mark}/><label for="of-{name}">{told}</label>'
+    return [head, f'<table class="of">{rows[0]}', *rows[1:], "</table></section>"]
+
+
 class Page:
     """A run, with what it posted."""
 
@@ -75,8 +122,8 @@ class Page:
         self.posted, self.recount = posted, posted.recount
         self.date, self.kind = clock.date_of(posted.day), KINDS[posted.kind]
         self.by_account = {}
-        for period, accounts in self.recount.results.items():
-            for one, figures in accounts.items():
+        for period, kept in self.recount.periods.items():
+            for one, figures in kept.rows():
                 self.by_account.setdefault(one, {})[period] = figures
         self.by_account = dict(sorted(self.by_account.items()))
         if alone is not None and alone not in self.by_account:
@@ -90,10 +137,7 @@ class Page:
         counts = f"{counted(row.periods, 'period')}, {counted(row.accounts, 'account')}"
         residual = f"Residual {figure(pounds(row.residual))}. {counted(row.postings, 'posting')}{before}."
         return [
-            '<!DOCTYPE html>\n<html lang="en"><head><meta charset="utf-8"/>',
-            f'<meta http-equiv="Content-Security-Policy" content="{POLICY}"/>',
-            f'<meta name="viewport" content="width=device-width"/><title>{title}</title><style>{STYLE}</style></head><body>',
-            f"<h1>{title}</h1>",
+            *head_of(title),
             f"<p>{clock.weekday_of(self.posted.day)}{kind_of_day(self.posted.day)}: {counts}. {residual}</p>",
             *self.laws(),
             *self.accounts(),
@@ -104,11 +148,7 @@ class Page:
 
     def laws(self):
         """What holds, or doesn't. Faults are listed below."""
-        lines = ["<h2>What was recomputed for this page</h2>", "<ul>"]
-        for said, holds in laws_of(self.posted):
-            lines.append(f'<li class="{"yes" if holds else "no"}"><b>{"✓" if holds else "✗"}</b> {said}</li>')
-        lines += [f'<li class="no">{html.escape(fault)}</li>' for fault in self.posted.faults()]
-        return [*lines, "</ul>", *(f"<p>{html.escape(line)}</p>" for line in self.recount.since())]
+        return ticked(laws_of(self.posted), self.posted.faults(), self.recount.since())
 
     def accounts(self):
         """A row for each account in which something happened, and the names of the others."""
@@ -135,7 +175,8 @@ class Page:
             '<p>In MWh, all on one scale: <b class="long">long</b> above the line, <b class="short">short</b> below it. At the right '
             "are the sums of both over the day. The residual, in pounds, has a scale of its own.</p>"
         )
-        return ["<h2>Imbalances by period</h2>", told, *drawn(self.posted.day, self.by_account, self.recount)]
+        residuals = {period: kept.residual for period, kept in self.recount.periods.items()}
+        return ["<h2>Imbalances by period</h2>", told, *drawn(steps_of_day(self.posted.day), self.by_account, residuals)]
 
     def statements(self):
         """Each account's periods, which are folded on the screen and printed open."""
@@ -146,16 +187,12 @@ class Page:
         return lines
 
     def statement(self, one, rows):
-        net, name = sum(row.charge + row.share for row in rows.values()), shown_name(one)
-        told = f"{name}: {'pays' if net >= 0 else 'is paid'} {pounds(abs(net))}"
-        is_open = ' checked="checked"' if self.alone else ""
-        yield f'<section id="{name}"><input class="fold" type="checkbox" id="of-{name}"{is_open}/><label for="of-{name}">{told}</label>'
-        yield f'<table class="of">{row_of(OF_PERIODS, "th")}'
+        lines = []
         for period, row in rows.items():
             begins, price = self.shown(period)
-            cells = [str(period), begins, *map(rounded, row[:4]), price, *map(pounds, (row.charge, row.share, row.charge + row.share))]
-            yield figure(f"<tr><td>{'</td><td>'.join(cells)}</td></tr>")
-        yield "</table></section>"
+            cells = [str(period), begins, *map(rounded, row[:4]), price, *cash_of(row)]
+            lines.append(figure(f"<tr><td>{'</td><td>'.join(cells)}</td></tr>"))
+        return folded(one, sum(row.charge + row.share for row in rows.values()), self.alone is not None, [row_of(OF_PERIODS, "th"), *lines])
 
     @functools.cache
     def shown(self, period):
@@ -167,29 +204,29 @@ class Page:
 def laws_of(posted):
     """Sentences about the run, and whether they hold."""
     recount = posted.recount
-    periods = recount.results.values()
+    periods = [kept.figures for kept in recount.periods.values()]
     return [
         ("Each figure follows from the accepted files.", not recount.differences),
         ("The tables have what the accepted files say.", not recount.of.departures),
-        ("Contracts sum to zero in each period.", all(sum(row.contracts for row in rows.values()) == 0 for rows in periods)),
+        ("Contracts sum to zero in each period.", all(sum(contracts) == 0 for _, _, contracts, *_ in periods)),
         ("Each unit's credits sum to its loss-adjusted volume.", are_whole(recount)),
         (
             "Each imbalance is the credited energy less the balancing volume and the contracts.",
-            all(row.imbalance == row.credited - row.balancing - row.contracts for rows in periods for row in rows.values()),
+            all(row[3] == row[0] - row[1] - row[2] for figures in periods for row in zip(*figures)),
         ),
         (
             "Charges and shares sum to zero in each period.",
-            all(sum(row.charge + row.share for row in rows.values()) == 0 for rows in periods),
+            all(sum(charges) + sum(shares) == 0 for *_, charges, shares in periods),
         ),
-        ("Each posting is the new net less the old, and they sum to zero.", not posted.departures() and sum(posted.postings.values()) == 0),
+        ("Each posting is the new net less the old, and they sum to zero.", not posted.departures and sum(posted.postings.values()) == 0),
     ]
 
 
 def are_whole(recount):
     """Whether the credits of each unit sum to what it has metered, times its multiplier."""
-    for period, credits in recount.credits.items():
-        sums, readings = {}, recount.inputs.readings(period)
-        for unit, _, _, ticks in credits:
+    for period, kept in recount.periods.items():
+        sums, readings = {}, recount.inputs.of(METERS, period).values
+        for (unit, _, _), ticks in zip(kept.units.names, kept.ticks):
             sums[unit] = sums.get(unit, 0) + ticks
         if sums != {unit: metered * tlm for unit, (metered, tlm, _) in readings.items() if unit in sums}:
             return False

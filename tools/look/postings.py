@@ -86,9 +86,9 @@ class Posted:
     def faults(self):
         """What doesn't follow, of the run and of the run before it."""
         before = [f"{KINDS[self.before.kind]}: {differs(one)}" for one in self.before.differences] if self.before else []
-        return [*self.recount.faults(), *before, *self.departures()]
+        return [*self.recount.faults(), *before, *self.departures]
 
-    @functools.cache
+    @functools.cached_property
     def departures(self):
         """A line for each posting that isn't the change of the net, and for a row of the run that isn't what the run has."""
         lines = []
@@ -102,9 +102,7 @@ class Posted:
 
     def row_departures(self):
         """What the run's own row has counted and summed."""
-        results = self.recount.results
-        accounts = {account for figures in results.values() for account in figures}
-        residual = sum(map(self.recount.residual, results))
+        accounts, residual = self.recount.account_sums, sum(kept.residual for kept in self.recount.periods.values())
         counts = [
             ("periods", self.row.periods, clock.count(self.day)),
             ("accounts", self.row.accounts, len(accounts)),

@@ -61,8 +61,8 @@ def made(office, asked, head, was_made):
     """What the run has posted, over the run before it."""
     if was_made:
         return Told([*head, "It was made before. Asked again, it posts nothing.", "Nothing was changed."])
-    of = Day(office, asked.date)
     before = [kind for kind in office.runs(asked.date) if kind < asked.kind]
+    of = Day(office, asked.date, [*before[-1:], asked.kind])
     if before:
         found = Compared(of, before[-1], asked.kind)
         lines = found.lines()

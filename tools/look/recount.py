@@ -5,15 +5,16 @@ until all figures follow. A run of before a correction follows from the rows tha
 
 import collections
 import functools
+import operator
 
 from . import clock
 from .accepted import Accepted, cited
-from .beside import sum_of
+from .columns import shared
 from .figures import mwh, pounds
-from .inputs import OF_DAY, Inputs, named, valued
+from .inputs import OF_DAY, inputs_of, named, valued
 from .office import KINDS, name_of
-from .rules import Figures
-from .tables import departures
+from .rules import Figures, Settled
+from .tables import departures, held
 from .tables import sums_of as tables_sums
 
 # A figure that a run has kept, and the one that follows. None where there is none.
@@ -31,14 +32,18 @@ class Day:
     def __init__(self, office, day, kinds=(), period=None):
         self.office, self.day, self.period = office, day, period
         is_large = period is None and office.is_large()
-        tables = office.beside(lambda alone: tables_sums(alone, day)) if is_large else None
+        tables = office.beside(lambda alone: tables_sums(held(alone, day))) if is_large else None
         self.kept = {kind: office.beside(functools.partial(kept_sums, day, kind)) for kind in kinds} if is_large else {}
         self.accepted = Accepted(office, day, period)
-        self.inputs = Inputs(self.accepted)
+        self.inputs = inputs_of(self.accepted)
         self.periods = range(1, clock.count(day) + 1) if period is None else [period]
         self.settled = self.inputs.settled(self.periods)
         self.departures = departures(office, self.inputs, tables and tables.result())
         self.recounts = {}
+
+    def let_go(self):
+        """Holds no run any more. Else a run and its day hold each other, and neither is freed."""
+        self.recounts.clear()
 
     def recount(self, kind):
         """A run of the day, counted once."""
@@ -53,13 +58,20 @@ def recounted(office, day, kind, period=None):
 
 
 def kept_sums(day, kind, office):
-    """The sums of what a run has kept of each period."""
-    return {period: tuple(map(sum_of, kept_rows(office, day, kind, period))) for period in office.periods_of(day, kind)}
+    """A sum of what a run has kept of each period."""
+    found, before = {}, None
+    for period in office.periods_of(day, kind):
+        before = kept_rows(office, day, kind, period, before)
+        found[period] = before.sum
+    return found
 
 
-def kept_rows(office, day, kind, period):
-    """What a run has kept of a period: the rows of its accounts, and those of its credits."""
-    return office.results(day, kind, period), office.credits(day, kind, period)
+def kept_rows(office, day, kind, period, before=None):
+    """What a run has kept of a period. Its keys are shared with what it has kept of another, where that has the same."""
+    parties, sides, *figures = [*map(list, zip(*office.results(day, kind, period)))] or [[] for _ in range(8)]
+    *units, ticks = [*map(list, zip(*office.credits(day, kind, period)))] or [[] for _ in range(4)]
+    accounts = shared([*zip(parties, sides)], before and before.accounts)
+    return Settled(accounts, figures, shared([*zip(*units)], before and before.units), ticks)
 
 
 class Recount:
@@ -71,9 +83,7 @@ class Recount:
         self.rows = {}
         self.inputs, self.settled, found = self.nearest()
         self.differences = [difference for period in sorted(found) for difference in found[period]]
-        self.results, self.credits = {}, {}
-        for period in found:
-            self.results[period], self.credits[period] = self.kept_of(period)
+        self.periods = {period: self.kept_of(period) for period in found}
         self.replaced = self.later_rows()
 
     def all_periods(self):
@@ -82,71 +92,58 @@ class Recount:
         return sorted({*self.of.periods, *kept})
 
     def kept(self, period):
-        """The rows of a period."""
+        """What the run has kept of a period, read in the tables."""
         if period not in self.rows:
             self.rows[period] = kept_rows(self.office, self.day, self.kind, period)
+            for account in self.rows[period].accounts.names:
+                self.office.account(*account)
         return self.rows[period]
 
     def is_same(self, period, settled):
-        """Whether the rows of a period are those to which it settles."""
+        """Whether the run has kept of a period that to which it settles."""
         if self.sums is not None:
-            return self.sums.get(period) == settled.sums
-        return self.kept(period) == settled.rows
+            return self.sums.get(period) == settled.sum
+        return self.kept(period).is_same(settled)
 
     def kept_of(self, period):
-        """A period's figures by account, in the order of accounts, and its credits."""
+        """What the run has kept of a period."""
         settled = self.settled.get(period)
-        if settled is not None and self.is_same(period, settled):
-            return settled.figures, settled.credits
-        figures, credits = self.kept(period)
-        return self.by_account(figures), credits
-
-    def by_account(self, rows):
-        return {self.office.account(party, side): Figures._make(row) for party, side, *row in rows}
+        return settled if settled is not None and self.is_same(period, settled) else self.kept(period)
 
     def nearest(self):
         """The inputs from which most figures follow, the latest of them; what they settle to, and the differences by period."""
         inputs, settled = self.of.inputs, self.of.settled
         found = {period: self.compared(period, settled.get(period)) for period in self.all_periods()}
         best = None
-        for place in sorted(self.of.accepted.files, reverse=True):
-            best = self.better(best, place, settled, found)
+        while inputs.place:
+            best = self.better(best, inputs, settled, found)
             if not best[0]:
                 break
-            inputs = inputs.copy() if inputs is self.of.inputs else inputs
-            concerned = inputs.take_back(place)
+            inputs, concerned = inputs.take_back()
             affected = self.of.periods if None in concerned else concerned
             changed = inputs.settled(affected)
             settled = {**settled, **changed}
             found = {**found, **{period: self.compared(period, changed[period]) for period in affected}}
-        best = best or (0, inputs.place, settled, found)
-        return inputs if inputs.place == best[1] else self.inputs_at(best[1]), best[2], best[3]
+        return best[1:] if best else (inputs, settled, found)
 
     @staticmethod
-    def better(best, place, settled, found):
-        """The better of what was found so far, and what is found after the file at a place."""
+    def better(best, inputs, settled, found):
+        """The better of what was found so far, and what is found from these inputs."""
         number = sum(map(len, found.values()))
-        return (number, place, settled, found) if best is None or number < best[0] else best
-
-    def inputs_at(self, place):
-        """What was in force after the file at a place."""
-        inputs = self.of.inputs.copy()
-        for later in sorted((other for other in self.of.accepted.files if other > place), reverse=True):
-            inputs.take_back(later)
-        return inputs
+        return (number, inputs, settled, found) if best is None or number < best[0] else best
 
     def compared(self, period, settled):
         """The differences between what the run has kept of a period, and what it settles to."""
         if settled is not None and self.is_same(period, settled):
             return []
-        figures, credits = self.kept(period)
+        kept = self.kept(period)
         if settled is None:
-            return [Difference(period, name_of(row[:2]), "figures", row, None) for row in figures] or [
+            return [Difference(period, name_of(account), "figures", row, None) for account, row in kept.rows()] or [
                 Difference(period, "period", "inputs", None, None)
             ]
         return [
-            *figure_differences(period, self.by_account(figures), settled.figures),
-            *credit_differences(period, credits, settled.credits),
+            *figure_differences(period, dict(kept.rows()), dict(settled.rows())),
+            *credit_differences(period, kept.credits(), settled.credits()),
         ]
 
     def later_rows(self):
@@ -164,25 +161,31 @@ class Recount:
             return then is None or now is None or then.value != now.value
         return is_there(then, self.day) != is_there(now, self.day)
 
-    def residual(self, period):
-        """Minus the sum of a period's charges."""
-        return -sum(figures.charge for figures in self.results[period].values())
-
     def weights(self, period):
         """Each account's weight by the run's own credits."""
-        found, units = dict.fromkeys(self.results[period], 0), self.inputs.units
-        for unit, party, side, ticks in self.credits[period]:
+        kept = self.periods[period]
+        found, units = dict.fromkeys(kept.accounts.names, 0), self.inputs.units
+        for unit, party, side, ticks in kept.credits():
             if unit in units and not units[unit].is_interconnector:
                 found[party, side] = found.get((party, side), 0) + abs(ticks)
         return found
 
+    @functools.cached_property
+    def account_sums(self):
+        """The figures of each account, summed over the periods."""
+        alike = {}
+        for kept in self.periods.values():
+            alike.setdefault(kept.accounts, []).append(kept.figures)
+        found = {}
+        for accounts, figures in alike.items():
+            columns = [map(sum, zip(*of_periods)) for of_periods in zip(*figures)]
+            for account, *row in zip(accounts.names, *columns):
+                found[account] = Figures._make(map(operator.add, found[account], row) if account in found else row)
+        return found
+
     def nets(self):
         """What each account pays by the run's figures, over the periods."""
-        found = {}
-        for accounts in self.results.values():
-            for account, figures in accounts.items():
-                found[account] = found.get(account, 0) + figures.charge + figures.share
-        return found
+        return {account: figures.charge + figures.share for account, figures in self.account_sums.items()}
 
     def since(self):
         """The rows that the run didn't know."""

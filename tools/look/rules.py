@@ -8,6 +8,7 @@ import functools
 import operator
 
 from .beside import sum_of
+from .columns import Keys
 from .figures import near
 
 # What a run keeps of an account, and the same in the order of its table.
@@ -21,17 +22,40 @@ Reading = collections.namedtuple("Reading", "metered tlm balancing")
 TLM_UNIT, CHARGE_UNIT = 10**7, 10**13
 
 
-class Settled(collections.namedtuple("Settled", "figures credits weights residual")):
-    """A period: the figures by account, the credits as rows of their table, each account's weight, and the residual."""
+class Settled:
+    """What a run keeps of a period, or what a period settles to: the figures of accounts, and the credits of units, by column."""
+
+    def __init__(self, accounts, figures, units, ticks):
+        self.accounts, self.figures = accounts, figures  # a column for each of `Figures`
+        self.units, self.ticks = units, ticks  # under the unit, the party and the side
 
     @functools.cached_property
+    def sum(self):
+        return sum_of((self.accounts.sum, self.figures, self.units.sum, self.ticks))
+
+    def is_same(self, other):
+        """Whether another has the same rows."""
+        return (self.accounts is other.accounts or self.accounts.names == other.accounts.names) and (
+            (self.figures, self.units.names, self.ticks) == (other.figures, other.units.names, other.ticks)
+        )
+
+    def of(self, account):
+        """The figures of an account. None where there is no such account."""
+        at = self.accounts.places.get(account)
+        return None if at is None else Figures._make(column[at] for column in self.figures)
+
     def rows(self):
-        """What a run keeps of it: the rows of accounts, and those of credits."""
-        return [(*account, *row) for account, row in self.figures.items()], self.credits
+        """Each account with its figures, in the order of accounts."""
+        return zip(self.accounts.names, map(Figures._make, zip(*self.figures)))
 
-    @functools.cached_property
-    def sums(self):
-        return tuple(map(sum_of, self.rows))
+    def credits(self):
+        """A unit, a party, a side and what that account is credited of the unit."""
+        return [(*key, ticks) for key, ticks in zip(self.units.names, self.ticks)]
+
+    @property
+    def residual(self):
+        """Minus the sum of the charges."""
+        return -sum(self.figures[4])
 
 
 def subsidiary_credit(reading, percent, fixed):
@@ -40,15 +64,11 @@ def subsidiary_credit(reading, percent, fixed):
     return near(((metered - balancing) * percent + fixed * TLM_UNIT) * tlm, TLM_UNIT)
 
 
-def credits_of(lead, reading, given):
-    """The credits of a unit to its accounts. The lead account has what its subsidiaries leave."""
-    found = [(account, subsidiary_credit(reading, *part)) for account, part in given.items()]
-    return [*found, (lead, reading[0] * reading[1] - sum(ticks for _, ticks in found))]
-
-
-def charge_of(imbalance, price):
-    """The pence that an account is charged."""
-    return near(-imbalance * price, CHARGE_UNIT)
+def charges_of(imbalances, price):
+    """The pence that each account is charged."""
+    half = CHARGE_UNIT // 2
+    cash = [imbalance * -price for imbalance in imbalances]
+    return [(one + half) // CHARGE_UNIT if one >= 0 else -((half - one) // CHARGE_UNIT) for one in cash]
 
 
 def quotas_of(residual, weights):
@@ -70,7 +90,8 @@ def parts_of(residual, weights):
 def luckiest(residual, quotas):
     """The places of the quotas that get one of the pence that were left over: those of which most is left, the first of equals."""
     left = abs(residual) - sum(pence for pence, _ in quotas)
-    by_rest = sorted(range(len(quotas)), key=lambda at: quotas[at][1], reverse=True)  # which keeps the order of equals
+    rests = [rest for _, rest in quotas]
+    by_rest = sorted(range(len(quotas)), key=rests.__getitem__, reverse=True)  # which keeps the order of equals
     return {*by_rest[:left]}
 
 
@@ -85,65 +106,76 @@ def shares_of(residual, weights):
     return shares if residual > 0 else [-pence for pence in shares]
 
 
-def settle(accounts, units, readings, reallocations, contracts, price):
-    """What a period settles to. Units are by their names, in whose order they come, and in which readings, too, are found. The
-    reallocations of a unit are by account, and contracts are triples of seller, buyer and kWh. None where a price or a reading
-    isn't there, or an account whose party isn't there on the date."""
-    if price is None or not units.keys() <= readings.keys():
-        return None
-    try:
-        energies = Energies(accounts)
-        energies.credit({name: unit for name, unit in units.items() if name not in reallocations}, readings)
-        for name in reallocations.keys() & units.keys():
-            energies.share_out(name, units[name], readings[name], reallocations[name])
-        energies.contract(contracts)
-    except KeyError:
-        return None
-    return energies.settled(price)
+# Where credits go: the place of the account of each, its weight's factor, which is 0 for an interconnector's; the reallocations, each
+# with the place of its unit; the order of the credits' keys, and these keys in it.
+Layout = collections.namedtuple("Layout", "places factors given order keys")
 
 
-class Energies:
-    """What the accounts of a period have, each at its place in their order."""
+class Market:
+    """The accounts and the units of a day, in their orders. Where an account's party isn't there on the day, no period settles."""
 
-    def __init__(self, accounts):
-        self.accounts, self.places = accounts, {account: at for at, account in enumerate(accounts)}
-        self.credited, self.balanced, self.sold, self.weights = ([0] * len(accounts) for _ in range(4))
-        self.credits = []
+    def __init__(self, accounts, units):
+        self.accounts, self.units, self.layouts = Keys(accounts), units, {}
+        self.names, self.leads = [*units], [unit.lead for unit in units.values()]
+        self.factors = [0 if unit.is_interconnector else 1 for unit in units.values()]
 
-    def credit(self, units, readings):
-        """Credits the units of which nothing is reallocated, all at once."""
-        leads = [unit.lead for unit in units.values()]
-        places = [self.places[lead] for lead in leads]
-        metered, tlms, balancing = zip(*map(readings.__getitem__, units)) if units else ((), (), ())
-        ticks = [*map(operator.mul, metered, tlms)]
-        self.credits += [(name, party, side, credit) for name, (party, side), credit in zip(units, leads, ticks)]
-        for at, credit in zip(places, ticks):
-            self.credited[at] += credit
-        for at, credit, unit in zip(places, ticks, units.values()):
-            if not unit.is_interconnector:
-                self.weights[at] += abs(credit)
-        for at, volume, tlm in zip(places, balancing, tlms):
-            self.balanced[at] += volume * tlm
+    def layout(self, given):
+        """Where the credits go if these units give to these accounts. Most periods have the same keys."""
+        if given not in self.layouts:
+            places = {name: at for at, name in enumerate(self.names)}
+            there = [(at, places[unit], account) for at, (unit, account) in enumerate(given.names) if unit in places]
+            accounts = [*self.leads, *(account for _, _, account in there)]
+            factors = [*self.factors, *(self.factors[unit_at] for _, unit_at, _ in there)]
+            keys = Keys([(name, *account) for name, account in zip([*self.names, *(self.names[one] for _, one, _ in there)], accounts)])
+            found = [self.accounts.places[account] for account in accounts]
+            self.layouts[given] = Layout(found, factors, [(at, one) for at, one, _ in there], keys.order, Keys(keys.sorted))
+        return self.layouts[given]
 
-    def share_out(self, name, unit, reading, given):
-        """Credits a unit to its subsidiaries and its lead account."""
-        for account, ticks in credits_of(unit.lead, reading, given):
-            at = self.places[account]
-            self.credited[at] += ticks
-            self.weights[at] += 0 if unit.is_interconnector else abs(ticks)
-            self.credits.append((name, *account, ticks))
-        self.balanced[self.places[unit.lead]] += reading[2] * reading[1]
+    def readings(self, held):
+        """The metered volumes, the multipliers and the balancing volumes in the order of units. None where a unit has none."""
+        if held.keys.sorted == self.names:
+            return held.in_order or ([], [], [])
+        if not held.values.keys() >= self.units.keys():
+            return None
+        return [*zip(*map(held.values.__getitem__, self.names))] or ([], [], [])
 
-    def contract(self, contracts):
-        for seller, buyer, kwh in contracts:
-            self.sold[self.places[seller]] += kwh * TLM_UNIT
-            self.sold[self.places[buyer]] -= kwh * TLM_UNIT
+    def settle(self, readings, given, contracts, price):
+        """What a period settles to. None where a price or a reading isn't there, or an account."""
+        columns = self.readings(readings)
+        if price is None or columns is None:
+            return None
+        try:
+            layout = self.layout(given.keys)
+            credits = credits_of(columns, layout.given, given.columns)
+            sold = self.sold(contracts)
+        except KeyError:
+            return None
+        credited, weights, balanced = ([0] * len(self.accounts.names) for _ in range(3))
+        for at, ticks, factor in zip(layout.places, credits, layout.factors):
+            credited[at] += ticks
+            weights[at] += factor * abs(ticks)
+        for at, volume, tlm in zip(layout.places, columns[2], columns[1]):  # of the lead accounts, which come first
+            balanced[at] += volume * tlm
+        imbalances = [mine - taken - out for mine, taken, out in zip(credited, balanced, sold)]
+        charges = charges_of(imbalances, price)
+        figures = [credited, balanced, sold, imbalances, charges, shares_of(-sum(charges), weights)]
+        return Settled(self.accounts, figures, layout.keys, [*map(credits.__getitem__, layout.order)])
 
-    def settled(self, price):
-        """What all this settles to."""
-        imbalances = [credited - balanced - sold for credited, balanced, sold in zip(self.credited, self.balanced, self.sold)]
-        charges = [charge_of(imbalance, price) for imbalance in imbalances]
-        residual = -sum(charges)
-        columns = self.credited, self.balanced, self.sold, imbalances, charges, shares_of(residual, self.weights)
-        figures = dict(zip(self.accounts, map(Figures._make, zip(*columns))))
-        return Settled(figures, sorted(self.credits), dict(zip(self.accounts, self.weights)), residual)
+    def sold(self, contracts):
+        """What each account has sold, less what it has bought."""
+        places, sold = self.accounts.places, [0] * len(self.accounts.names)
+        for seller, buyer, kwh in zip(*contracts.columns):
+            sold[places[seller]] += kwh
+            sold[places[buyer]] -= kwh
+        return [kwh * TLM_UNIT for kwh in sold]
+
+
+def credits_of(readings, given, parts):
+    """The credit of each unit to its lead account, which has what subsidiaries leave, and then that of each reallocation."""
+    metered, tlms, balancing = readings
+    credits = [*map(operator.mul, metered, tlms)]
+    for at, unit in given:
+        ticks = subsidiary_credit((metered[unit], tlms[unit], balancing[unit]), parts[0][at], parts[1][at])
+        credits[unit] -= ticks
+        credits.append(ticks)
+    return credits

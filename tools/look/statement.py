@@ -66,6 +66,7 @@ class OfDate:
         elif asked.last is None:
             self.lines = of_periods(recount, asked.account, rows)
         self.since, self.faults, self.closing = recount.since(), recount.faults(), recount.closing()
+        recount.of.let_go()
 
 
 def closing_of(dates):
@@ -86,7 +87,7 @@ def account_is_there(office, account):
 
 def of_account(recount, account):
     """The account's figures by period."""
-    rows = {period: accounts[account] for period, accounts in recount.results.items() if account in accounts}
+    rows = {period: row for period, kept in recount.periods.items() if (row := kept.of(account)) is not None}
     if not rows:
         raise Fault(f"{recount.office.path}: {KINDS[recount.kind]} of {clock.date_of(recount.day)} has no account {name_of(account)}")
     return rows
@@ -131,7 +132,7 @@ def csv_lines(recount, account, rows):
                 *(clock.date_of(recount.day), KINDS[recount.kind], name_of(account), str(period), begins),
                 *map(mwh, row[:4]),
                 "" if price is None else decimal(price, PRICE),
-                *(str(row.charge), str(recount.residual(period)), mwh(weights.get(account, 0)), mwh(sum(weights.values()))),
+                *(str(row.charge), str(recount.periods[period].residual), mwh(weights.get(account, 0)), mwh(sum(weights.values()))),
                 *(str(row.share), str(row.charge + row.share)),
             ]
         )

@@ -1,61 +1,69 @@
 """Whether the tables have what the accepted files say."""
 
-import collections
-
 from .accepted import CONTRACTS, METERS, PARTIES, PRICES, REALLOCATIONS, UNITS, cited
 from .beside import sum_of
+from .columns import NOTHING, Held, Keys, held_by_period
 from .inputs import named, valued
 
 
 def held(office, day, period=None):
-    """What the tables have in force, by kind, then by period, and then by the rest of the key, as `Accepted` has it."""
-    references = office.references()
+    """What the tables have in force, by kind and then by period, as `Inputs` has it."""
     return {
-        PARTIES: by_period((None, party, tuple(days)) for party, days in office.parties().items()),
-        UNITS: by_period((None, name, tuple(unit)) for name, unit in office.units().items()),
-        METERS: by_period((number, unit, tuple(reading)) for number, unit, *reading in office.readings(day, period)),
-        PRICES: by_period((number, None, price) for number, price in office.prices(day, period)),
-        CONTRACTS: by_period(
-            (number, reference, (*references.get(reference, (None, None)), kwh)) for number, reference, kwh in office.contracts(day, period)
-        ),
+        PARTIES: registered(*zip(*office.party_rows())),
+        UNITS: registered(*units_of(*zip(*office.unit_rows()))),
+        METERS: by_period(office.readings(day, period)),
+        PRICES: by_period([(number, None, price) for number, price in office.prices(day, period)]),
+        CONTRACTS: by_period(contracts_of(office, day, period)),
         REALLOCATIONS: by_period(
-            (number, (unit, office.account(party, side)), tuple(part))
-            for number, unit, party, side, *part in office.reallocations(day, period)
+            [(number, (unit, office.account(party, side)), *part) for number, unit, party, side, *part in office.reallocations(day, period)]
         ),
     }
 
 
+def contracts_of(office, day, period):
+    """A period, a reference, its seller and its buyer, and its volume."""
+    references = office.references()
+    for number, reference, kwh in office.contracts(day, period):
+        yield number, reference, *references.get(reference, (None, None)), kwh
+
+
+def registered(names=(), *columns):
+    """Rows of a key and a value."""
+    return {None: Held(Keys([*names]), columns)} if names else {}
+
+
+def units_of(names=(), parties=(), sides=(), marks=(), *days):
+    """The columns of units, with the lead account in place of its party and side."""
+    return names, [*zip(parties, sides)], [*map(bool, marks)], *days
+
+
 def by_period(rows):
-    found = collections.defaultdict(dict)
-    for period, key, value in rows:
-        found[period][key] = value
-    return found
+    """Rows of a period, a key and a value."""
+    periods, names, *columns = [*zip(*rows)] or [(), ()]
+    return held_by_period(periods, names, columns)
 
 
-def sums_of(office, day):
-    """A sum for each kind of what the tables have in force."""
-    return {kind: sum_of(lined_up(rows)) for kind, rows in held(office, day).items()}
-
-
-def lined_up(periods):
-    """Rows by period and key as plain values in one order."""
-    return [(period, [(key, rows[key]) for key in sorted(rows)]) for period, rows in sorted(periods.items())]
+def sums_of(kinds):
+    """A sum for each kind of what is in force."""
+    return {kind: sum_of([(period, held.sum) for period, held in sorted(periods.items())]) for kind, periods in kinds.items()}
 
 
 def departures(office, inputs, sums):
     """A line for each row in force that isn't the one that the files give. `sums` are those of the tables, if they are known."""
-    accepted = inputs.accepted
-    lines = list(accepted.miscounts)
-    wanted = {kind: {period: rows for period, rows in periods.items() if rows} for kind, periods in inputs.values.items()}
-    if sums == {kind: sum_of(lined_up(periods)) for kind, periods in wanted.items()}:
+    accepted, lines = inputs.accepted, list(inputs.accepted.miscounts)
+    if sums is not None and sums == sums_of(inputs.held):
         return lines
-    for kind, rows in held(office, accepted.day, accepted.period).items():
-        for period in sorted(rows.keys() | wanted[kind].keys()):
-            one, other = (periods.get(period, {}) for periods in (rows, wanted[kind]))
-            if one != other:
-                keys = sorted((key for key in one.keys() | other.keys() if one.get(key) != other.get(key)), key=str)
-                lines += [departure(accepted, kind, (period, key), one.get(key)) for key in keys]
+    for kind, periods in held(office, accepted.day, accepted.period).items():
+        for period in sorted(periods.keys() | inputs.held[kind].keys()):
+            one, other = (rows.get(period, NOTHING) for rows in (periods, inputs.held[kind]))
+            if not one.is_same(other):
+                lines += [departure(accepted, kind, (period, key), one.values.get(key)) for key in apart(one.values, other.values)]
     return lines
+
+
+def apart(one, other):
+    """The keys that have another value."""
+    return sorted((key for key in one.keys() | other.keys() if one.get(key) != other.get(key)), key=str)
 
 
 def departure(accepted, kind, key, value):

@@ -51,7 +51,7 @@ class OfPeriod:
     def __init__(self, recount, account, rows):
         ((self.period, self.row),) = rows.items()
         self.recount, self.inputs, self.account = recount, recount.inputs, account
-        self.credits = {unit: ticks for unit, *one, ticks in recount.credits[self.period] if tuple(one) == account}
+        self.credits = {unit: ticks for unit, *one, ticks in recount.periods[self.period].credits() if tuple(one) == account}
 
     def lines(self):
         begins = clock.start(self.recount.day, self.period)
@@ -95,7 +95,7 @@ class OfPeriod:
     def balancing_lines(self):
         """The units that the account leads and that have a balancing volume."""
         lines = []
-        for unit, registered in self.inputs.units_of_day().items():
+        for unit, registered in self.inputs.units_of_day.items():
             reading = self.inputs.reading(self.period, unit)
             if registered.lead == self.account and reading and reading.balancing:
                 told = f"  {unit}: {decimal(reading.balancing, KWH)} MWh x {decimal(reading.tlm, TLM)}"
@@ -119,7 +119,7 @@ class OfPeriod:
 
     def share(self):
         """The share of the residual, and how it is found."""
-        residual, weights = self.recount.residual(self.period), self.recount.weights(self.period)
+        residual, weights = self.recount.periods[self.period].residual, self.recount.weights(self.period)
         lines = [item(f"Share of the residual, which is {pounds(residual)}", pounds(self.row.share))]
         whole = sum(weights.values())
         alike = f"no account has a weight, so each of {len(weights)} counts alike"
@@ -162,7 +162,7 @@ class OfDay:
         credited, balancing, contracts, imbalance, charge, share = (sum(column) for column in zip(*self.rows.values()))
         sides = [standing(row.imbalance) for row in self.rows.values()]
         stood = listed([f"{side} in {sides.count(side)}" for side in ("long", "short", "in balance") if side in sides])
-        residual = sum(map(recount.residual, recount.results))
+        residual = sum(kept.residual for kept in recount.periods.values())
         return [
             f"{name_of(self.account)}, {date}, run {kind}, sums of {counted(len(self.rows), 'period')}",
             "",
@@ -181,8 +181,8 @@ class OfDay:
     def units(self):
         """What the account is credited from each unit."""
         sums = {}
-        for credits in self.recount.credits.values():
-            for unit, party, side, ticks in credits:
+        for kept in self.recount.periods.values():
+            for unit, party, side, ticks in kept.credits():
                 if (party, side) == self.account:
                     sums[unit] = sums.get(unit, 0) + ticks
         return sorted(sums.items())

@@ -1,6 +1,6 @@
 -- The properties of a Settlement Period that is accounted for, and how they depend on which periods were touched.
 use Rattle.std.proofs.Common.{◌≡◌, ℕ, zero, suc, ◌≤◌, List, [], ◌∷◌, ◌++◌, map, refl, sym, ap, subst, ◌∙◌, Bool, true, false, Option, Some, None, arith}
-use Rattle.std.specs.Prelude.{◌==◌, ◌≢◌, ◌||◌, filter}
+use Rattle.std.specs.Prelude.{◌==◌, ◌≢◌, ◌||◌, filter, IsTrue}
 use Rattle.std.specs.Cmp.{eq_by_cmp_equiv}
 use Rattle.std.specs.List.{AllByRecursion, flat_map, list_all}
 use Rattle.std.specs.Ordering.{eq_by_cmp}
@@ -20,7 +20,7 @@ use Rattle.hh_states.specs.Runs.{last_of}
 use Rattle.hh_state_laws.proofs.ApartLaws.{all-before-map, all-filter, all-weaken}
 use Rattle.hh_state_laws.proofs.RisingLaws.{filter-passes}
 use Rattle.hh_states.specs.Beside.{are_days_accounted_for, is_among, is_day_accounted_for, is_accounted_for, is_still, latest_on, period_of_run, terms_for}
-use Rattle.hh_beside.specs.DayLaws.{AccountedForByTheSame, AccountedForWhereAllTouched, UntouchedHasPrice, UntouchedIsSettled}
+use Rattle.hh_beside.specs.DayLaws.{HaveTheSame, UntouchedIsSettled}
 use Rattle.hh_beside.specs.Keeping.{periods_of_runs}
 use Rattle.hh_beside.proofs.DayTests.{tells_periods}
 
@@ -134,14 +134,10 @@ untouched_is_settled content touched at run summary accounted latest least most 
     let more = and_parts _ _ parts.0 in
     (sym (sym (ap settled terms) ∙ (tells_periods _ s).0 parts.1), sym (ap is_within_limits terms) ∙ more.1)
 
-pub untouched_has_price : UntouchedHasPrice
-untouched_has_price content touched at run summary accounted latest least most untouched =
-    let parts = and_parts _ _ (untouched_is_still content touched at run summary accounted latest least most untouched) in
-    (and_parts _ _ parts.0).0
-
 -- ---- what was touched
 
-pub accounted_for_by_the_same : AccountedForByTheSame
+pub accounted_for_by_the_same : (content : Content) (these those : List SettlementPeriod) → HaveTheSame these those
+    → are_days_accounted_for content these ≡ are_days_accounted_for content those
 accounted_for_by_the_same content these those same = λ i.
     list_all (λ e. elim (latest_on content e.0.date) [
       | None ↦ true
@@ -178,7 +174,8 @@ blocks_among block (x ∷ xs) = (
       (λ y. all-weaken (λ at. is_among (flat_map block xs) at ≡ true) (λ at. is_among (block x ++ flat_map block xs) at ≡ true) (among_second (block x) (flat_map block xs)) (block y)) xs (blocks_among block xs),
 )
 
-pub accounted_for_where_all_touched : AccountedForWhereAllTouched
+pub accounted_for_where_all_touched : (content : Content)
+    → IsTrue (are_days_accounted_for content (periods_of_runs content.runs))
 accounted_for_where_all_touched content =
     let touched : List SettlementPeriod = periods_of_runs content.runs in
     days_accounted_for content touched (λ date e is.

@@ -1,7 +1,8 @@
 -- Days that are accounted for still are after a load, with what its rows in time touch.
 use Rattle.std.proofs.Common.{◌≡◌, List, ◌++◌, map, refl, sym, ap, subst, ◌∙◌, Bool, true, false}
-use Rattle.std.specs.Prelude.{◌&&◌, ◌||◌, filter_map, is_some}
+use Rattle.std.specs.Prelude.{◌&&◌, ◌||◌, filter_map, is_some, IsFalse, IsTrue}
 use Rattle.std.proofs.lemmas.Bool.{or_left, or_right}
+use Rattle.hh_time.specs.Days.{Midnights}
 use Rattle.hh_names.specs.declared.account.Account.{Account}
 use Rattle.hh_rows.specs.declared.settlement_period.SettlementPeriod.{SettlementPeriod}
 use Rattle.hh_rules.specs.History.{Registered}
@@ -12,18 +13,22 @@ use Rattle.hh_states.specs.Changes.{LoadChangeView, effect_of_load, load_change}
 use Rattle.hh_states.specs.Content.{Content, tables_of}
 use Rattle.hh_states.specs.DaySettlement.{periods_on}
 use Rattle.hh_states.specs.PeriodSettlement.{price_of, settled}
-use Rattle.hh_states.specs.Steps.{after_load, registered_at, rows_coming, timetable_at}
+use Rattle.hh_states.specs.Steps.{CanLoad, IsReached, Load, after_load, registered_at, rows_coming, timetable_at}
 use Rattle.hh_state_laws.proofs.AcceptedLaws.{rows_valued}
 use Rattle.hh_state_laws.proofs.ApartLaws.{all-weaken}
 use Rattle.hh_state_laws.proofs.ConsistentLaws.{reached_consistent}
 use Rattle.hh_state_laws.proofs.ReachLaws.{load_effect}
 use Rattle.hh_states.specs.Beside.{are_days_accounted_for, is_among, is_accounted_for, is_same_period, is_still, period_of_run, terms_for}
-use Rattle.hh_beside.specs.DayLaws.{AccountedForAfterLoads, UntouchedStays}
+use Rattle.hh_states.specs.States.{State}
 use Rattle.hh_beside.specs.Keeping.{touched_by}
 use Rattle.hh_beside.proofs.DayAccountedFor.{among_first, among_second, days_accounted_for, latest_accounted_for}
 use Rattle.hh_beside.proofs.DayRows.{IsPeriodSame, rows_stay, same_terms}
 
-pub untouched_stays : UntouchedStays
+pub untouched_stays : (midnight : Midnights) (s : State) (load : Load) (at : SettlementPeriod) → IsReached midnight s
+    → CanLoad midnight s load → IsFalse (is_among (filter_map touched_by (load_change midnight s load).rows) at)
+    → (price_of (registered_at midnight (after_load midnight s load)) at ≡ price_of (registered_at midnight s) at)
+    × ((accounts : List Account) → terms_for accounts (registered_at midnight (after_load midnight s load)) at
+    ≡ terms_for accounts (registered_at midnight s) at)
 untouched_stays midnight s load at reached can untouched =
     let old : Registered = registered_at midnight s in
     let new : Registered = registered_at midnight (after_load midnight s load) in
@@ -42,7 +47,10 @@ pub touched_or_still : (touched more was is : Bool) → (touched ≡ true → mo
 touched_or_still true more was is still_touched still_so accounted = or_left more is (still_touched refl)
 touched_or_still false more was is still_touched still_so accounted = or_right more is (still_so accounted)
 
-pub accounted_for_after_loads : AccountedForAfterLoads
+pub accounted_for_after_loads : (midnight : Midnights) (s : State) (load : Load) (touched : List SettlementPeriod) → IsReached midnight s
+    → CanLoad midnight s load → IsTrue (are_days_accounted_for (tables_of midnight s) touched)
+    → IsTrue (are_days_accounted_for (tables_of midnight (after_load midnight s load))
+    (filter_map touched_by (load_change midnight s load).rows ++ touched))
 accounted_for_after_loads midnight s load touched reached can accounted =
     let w : LoadChangeView = load_change midnight s load in
     let content : Content = tables_of midnight s in

@@ -27,7 +27,7 @@ use Rattle.hh_states.specs.DaySettlement.{settled_at}
 use Rattle.hh_states.specs.PeriodSettlement.{UnitAccount, keyed_credits, settled, terms_at, unit_account_cmp}
 use Rattle.hh_states.specs.Runs.{Run, periods_of, run_key_cmp, seen_by, settled_by}
 use Rattle.hh_states.specs.States.{State}
-use Rattle.hh_states.specs.Steps.{timetable_at}
+use Rattle.hh_states.specs.Steps.{IsReached, timetable_at}
 use Rattle.hh_states.proofs.KeyLaws.{credit_key_total, exact_credit_keys, exact_result_keys, result_key_total, run_key_total, unit_account_total}
 use Rattle.hh_state_laws.proofs.ApartLaws.{NoneAlike, all-before-map, all-map, all-weaken, distinct-map, distinct-weaken}
 use Rattle.hh_state_laws.proofs.CreditSumLaws.{numbers_differ, turned_number}
@@ -37,7 +37,6 @@ use Rattle.hh_state_laws.proofs.RisingLaws.{Rises, all-both, is_not_below, map-m
 use Rattle.hh_state_laws.proofs.RunRowLaws.{all_blocks, all_of}
 use Rattle.hh_state_laws.proofs.SettledLaws.{a_share_each, figures_shown}
 use Rattle.hh_states.specs.Beside.{credit_row, is_credit_of, is_result_of, period_of_run}
-use Rattle.hh_beside.specs.DayLaws.{HoldsPeriods}
 
 -- the elements that pass two tests are those of the first's that pass the second
 passing_both : {X : Type 0} (a b : X → Bool) (xs : List X) → filter (λ x. a x && b x) xs ≡ filter b (filter a xs)
@@ -199,7 +198,10 @@ module _ (midnight : Midnights) (s : State) where
       (each_period credit_key_total exact_credit_keys (λ k. k.run) (λ k. k.period) credit_block credits_own_run credits_own_period day_of s.runs r credits (numbers_apart r))))
 
 -- the tables of a reached state have each Settlement Period of each run as the run settled it
-pub holds_periods : HoldsPeriods
+pub holds_periods : (midnight : Midnights) (s : State) → IsReached midnight s
+    → AllByRecursion (λ r. AllByRecursion (λ at.
+    period_of_run (tables_of midnight s) r.key at.period ≡ settled (terms_at (seen_by (timetable_at midnight s) s.history r) at))
+    (periods_of midnight r)) s.runs
 holds_periods midnight s reached =
     let apart : NoneAlike have_one_run_key s.runs = runs_distinct midnight s reached in
     all-weaken

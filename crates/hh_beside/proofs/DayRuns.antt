@@ -1,6 +1,6 @@
 -- Days that are accounted for still are after a run, after which no period of its date is touched.
 use Rattle.std.proofs.Common.{◌≡◌, ℕ, List, [], ◌∷◌, ◌++◌, length, map, refl, sym, ap, subst, ◌∙◌, Bool, true, false, cond, Option, Some, None, Ordering, arith, eq-eqb, take_all}
-use Rattle.std.specs.Prelude.{ℤ, ◌==◌, ◌&&◌, ◌||◌, filter, is_none, is_some, not, option_map}
+use Rattle.std.specs.Prelude.{ℤ, ◌==◌, ◌&&◌, ◌||◌, filter, is_none, is_some, not, option_map, IsTrue}
 use Rattle.std.specs.Cmp.{Equal-is, IsTotalOrder, unsigned_tied}
 use Rattle.std.specs.List.{AllByRecursion}
 use Rattle.std.specs.Ordering.{eq_by_cmp, nat_cmp}
@@ -27,20 +27,18 @@ use Rattle.hh_states.specs.Changes.{RunChangeView, effect_of_run, run_change}
 use Rattle.hh_states.specs.Content.{Content, runs_with_former, tables_of}
 use Rattle.hh_states.specs.DaySettlement.{from_one_to, periods_on}
 use Rattle.hh_states.specs.PeriodSettlement.{price_of, settled, terms_at}
-use Rattle.hh_states.specs.Readiness.{IsComplete}
 use Rattle.hh_states.specs.Runs.{Run, last_of, latest_run, periods_of, run_key_cmp, seen_by, settled_by, summary_after}
 use Rattle.hh_states.specs.States.{State}
 use Rattle.hh_states.specs.Steps.{CanRun, IsReached, after_run, by_run, new_run, new_summary, timetable_at}
 use Rattle.hh_states.proofs.KeyLaws.{credit_key_total, exact_credit_keys, exact_result_keys, exact_run_keys, result_key_total, run_key_total}
 use Rattle.hh_state_laws.proofs.ApartLaws.{all-before-map, all-map, all-weaken, first_part}
-use Rattle.hh_state_laws.proofs.CompleteLaws.{none_passes, runs_complete}
+use Rattle.hh_state_laws.proofs.CompleteLaws.{IsComplete, none_passes, runs_complete}
 use Rattle.hh_state_laws.proofs.CreditSumLaws.{turned_number}
 use Rattle.hh_state_laws.proofs.RisingLaws.{all-both, filter_map-if}
 use Rattle.hh_state_laws.proofs.RunLaws.{run_effect, with_former-append}
 use Rattle.hh_state_laws.proofs.RunReadLaws.{holds_runs_of_dates}
 use Rattle.hh_state_laws.proofs.RunRowLaws.{credits_own, results_own}
-use Rattle.hh_states.specs.Beside.{credit_row, is_among, is_accounted_for, is_still, latest_on, period_of_run, terms_for}
-use Rattle.hh_beside.specs.DayLaws.{AccountedForAfterRuns}
+use Rattle.hh_states.specs.Beside.{credit_row, is_among, is_accounted_for, is_still, latest_on, period_of_run, terms_for, are_days_accounted_for}
 use Rattle.hh_beside.proofs.DayAccountedFor.{IsRunAccountedFor, days_accounted_for, latest_accounted_for, latest_of_date}
 use Rattle.hh_beside.proofs.DayLoads.{touched_or_still}
 use Rattle.hh_beside.proofs.DayPeriods.{accounts_settled, holds_periods}
@@ -228,7 +226,9 @@ module _ (midnight : Midnights) (s : State) (key : RunKey) where
         one_value : {X : Type 0} (x y : X) → Some x ≡ Some y → x ≡ y
         one_value x y is = cc
 
-pub accounted_for_after_runs : AccountedForAfterRuns
+pub accounted_for_after_runs : (midnight : Midnights) (s : State) (moment : ℤ) (key : RunKey) (touched : List SettlementPeriod)
+    → IsReached midnight s → CanRun midnight s moment key → IsTrue (are_days_accounted_for (tables_of midnight s) touched)
+    → IsTrue (are_days_accounted_for (tables_of midnight (after_run s key)) (filter (λ at. not (at.date == key.date)) touched))
 accounted_for_after_runs midnight s moment key touched reached can accounted =
     let effect = run_effect midnight s moment key can in
     days_accounted_for (after midnight s key) (left midnight s key touched) (λ date e latest.

@@ -9,8 +9,10 @@ use Rattle.std.specs.Cmp.{eq_by_cmp_equiv}
 use Rattle.hh_names.specs.declared.account.Account.{Account}
 use Rattle.hh_names.specs.Accounts.{account_cmp, is_same_account}
 use Rattle.hh_names.proofs.AccountLaws.{account_total, exact_accounts}
+use Rattle.hh_calc.specs.declared.result.AccountRow.{AccountRow}
+use Rattle.hh_calc.specs.declared.result.CreditRow.{CreditRow}
+use Rattle.hh_calc.specs.Terms.{Settled}
 use Rattle.hh_states.specs.Beside.{is_same_credit, is_same_period, is_same_row}
-use Rattle.hh_beside.specs.DayLaws.{TellsCredits, TellsPeriods, TellsRows}
 
 -- the test of equal accounts holds exactly for equal ones
 tells_accounts : (a b : Account) → Decides (is_same_account a b) (a ≡ b)
@@ -35,7 +37,7 @@ tells_lists test tells (x ∷ xs) (y ∷ ys) =
     Decides-like (pointwise test (x ∷ xs) (y ∷ ys)) (λ parts i. parts.0 i ∷ parts.1 i) (λ one. (first_same x y xs ys one, rest_same x y xs ys one))
     (Decides-and (test x y) (pointwise test xs ys) (tells x y) (tells_lists test tells xs ys))
 
-pub tells_rows : TellsRows
+pub tells_rows : (r q : AccountRow) → Decides (is_same_row r q) (r ≡ q)
 tells_rows r q =
     Decides-like (is_same_row r q)
     (λ parts i. record {
@@ -58,13 +60,13 @@ tells_rows r q =
     (Decides-int_eq r.charge q.charge))
     (Decides-int_eq r.share q.share))
 
-pub tells_credits : TellsCredits
+pub tells_credits : (c d : CreditRow) → Decides (is_same_credit c d) (c ≡ d)
 tells_credits c d =
     Decides-like (is_same_credit c d) (λ parts i. record { unit = parts.0.0 i; account = parts.0.1 i; credited = parts.1 i })
     (λ one. ((λ i. (one i).unit, λ i. (one i).account), λ i. (one i).credited))
     (Decides-and _ _ (Decides-and _ _ (bytes_eq-Decides c.unit d.unit) (tells_accounts c.account d.account)) (Decides-int_eq c.credited d.credited))
 
-pub tells_periods : TellsPeriods
+pub tells_periods : (s t : Settled) → Decides (is_same_period s t) (s ≡ t)
 tells_periods s t =
     Decides-like (is_same_period s t) (λ parts i. record { accounts = parts.0.0 i; credits = parts.0.1 i; residual = parts.1 i })
     (λ one. ((λ i. (one i).accounts, λ i. (one i).credits), λ i. (one i).residual))

@@ -2,7 +2,6 @@ pub mod AgreeLaws
 pub mod DayAccountedFor
 pub mod DayLoads
 pub mod DayPeriods
-pub mod DayReadings
 pub mod DayRows
 pub mod DayRuns
 pub mod DayTests
@@ -12,7 +11,6 @@ pub mod PositionLoads
 pub mod PositionMade
 mod PositionNets
 pub mod PositionParts
-pub mod PositionRanges
 pub mod PositionSums
 pub mod PositionTables
 pub mod PositionWrites

@@ -1,11 +1,12 @@
 -- Positions that are right stay so with each accepted row.
 use Rattle.std.proofs.Common.{◌≡◌, ℕ, ◌+◌, List, [], ◌∷◌, ◌++◌, map, refl, ap, sym, subst, ◌∙◌, Bool, true, false, cond, Option, Some, None, append_assoc}
-use Rattle.std.specs.Prelude.{ℤ, filter, is_some, IsSome, T}
+use Rattle.std.specs.Prelude.{ℤ, filter, is_some, IsSome, T, IsTrue}
 use Rattle.std.specs.FinMap.{find, is_sorted}
 use Rattle.std.proofs.lemmas.List.{append-nil}
 use Rattle.std.proofs.lemmas.Option.{same_Some}
 use Rattle.hh_tables.specs.Tables.{Table, latest}
 use Rattle.hh_tables.proofs.TableLaws.{is_sorted-in_key_order}
+use Rattle.hh_time.specs.Days.{Midnights}
 use Rattle.hh_names.specs.declared.fault.Fault.{Fault}
 use Rattle.hh_names.specs.declared.fault.Refusal.{Refusal}
 use Rattle.hh_names.specs.declared.values.Counterparties.{Counterparties}
@@ -29,12 +30,16 @@ use Rattle.hh_rules.specs.Refusals.{contract_refusals, refusals_of, whole_standi
 use Rattle.hh_rules.specs.declared.positions.Position.{Position}
 use Rattle.hh_rules.specs.declared.positions.PositionKey.{PositionKey}
 use Rattle.hh_rules.proofs.HistoryLaws.{looks_back}
-use Rattle.hh_states.specs.Steps.{rows_coming, timetable_at}
+use Rattle.hh_runs.specs.declared.run_key.RunKey.{RunKey}
+use Rattle.hh_states.specs.Steps.{CanLoad, IsReached, Load, after_load, after_run, rows_coming, timetable_at}
 use Rattle.hh_state_laws.proofs.ConsistentLaws.{none_met, reached_consistent}
 use Rattle.hh_state_laws.proofs.PutLaws.{keys-put}
-use Rattle.hh_states.specs.Beside.{net_position}
+use Rattle.hh_states.specs.Beside.{are_positions_right, net_position}
+use Rattle.hh_states.specs.Changes.{load_change}
+use Rattle.hh_states.specs.States.{State}
+use Rattle.hh_states.specs.Content.{tables_of}
 use Rattle.hh_beside.specs.Keeping.{positions_with, replaced_by}
-use Rattle.hh_beside.specs.PositionLaws.{KnownIsNet, LoadsKeepPositions, RunsKeepPositions}
+use Rattle.hh_beside.specs.PositionLaws.{KnownIsNet}
 use Rattle.hh_beside.proofs.PositionLists.{AreRight, HasBoth, are_right, right_are}
 use Rattle.hh_beside.proofs.PositionNets.{AreFixed, late_fixed, late_same, own_reference, reference_stays, timely_fixed, timely_more}
 use Rattle.hh_beside.proofs.PositionTables.{IsOf, buys-with_replaced, sells-with_replaced, stays-with_replaced, with_contract_are, with_replaced_table}
@@ -189,7 +194,10 @@ rows_right timetable (a ∷ rows) history n positions none fixed are =
     ] refl none
 
 -- and so after an accepted load
-pub loads_keep_positions : LoadsKeepPositions
+pub loads_keep_positions : (midnight : Midnights) (s : State) (load : Load) (positions : Table PositionKey Position)
+    → IsReached midnight s → CanLoad midnight s load → IsTrue (are_positions_right (tables_of midnight s).registered positions)
+    → IsTrue (are_positions_right (tables_of midnight (after_load midnight s load)).registered
+    (positions_with (load_change midnight s load).rows (tables_of midnight s).registered.contracts positions))
 loads_keep_positions midnight s load positions reached can right =
     let timetable : Timetable = timetable_at midnight s in
     let consistent = reached_consistent midnight s reached in
@@ -198,5 +206,7 @@ loads_keep_positions midnight s load positions reached can right =
     (right_are (registered_in timetable s.history) positions right))
 
 -- a run leaves them as they are
-pub runs_keep_positions : RunsKeepPositions
+pub runs_keep_positions : (midnight : Midnights) (s : State) (key : RunKey) (positions : Table PositionKey Position)
+    → IsTrue (are_positions_right (tables_of midnight s).registered positions)
+    → IsTrue (are_positions_right (tables_of midnight (after_run s key)).registered positions)
 runs_keep_positions midnight s key positions right = right

@@ -1,6 +1,6 @@
 -- Positions that are made anew from the contracts in force are right.
 use Rattle.std.proofs.Common.{◌≡◌, List, [], ◌∷◌, refl, ap, sym, ◌∙◌}
-use Rattle.std.specs.Prelude.{ℤ, pos, ◌+ℤ◌, ◌-ℤ◌, filter_map, None, Option, Some, T}
+use Rattle.std.specs.Prelude.{ℤ, pos, ◌+ℤ◌, ◌-ℤ◌, filter_map, None, Option, Some, T, IsTrue}
 use Rattle.std.specs.FinMap.{find, is_sorted}
 use Rattle.std.specs.FinMap.Entries.{same_entries}
 use Rattle.std.specs.List.{list_all}
@@ -14,10 +14,11 @@ use Rattle.hh_rows.specs.declared.rows.ContractRow.{ContractRow}
 use Rattle.hh_rules.specs.Positions.{position_key, position_key_cmp, with_replaced}
 use Rattle.hh_rules.specs.declared.positions.Position.{Position}
 use Rattle.hh_rules.specs.declared.positions.PositionKey.{PositionKey}
+use Rattle.hh_rules.specs.History.{Registered}
 use Rattle.hh_states.specs.PeriodSettlement.{row_in_force}
-use Rattle.hh_states.specs.Beside.{has_positions, net_position}
+use Rattle.hh_states.specs.Beside.{are_positions_right, has_positions, net_position}
 use Rattle.hh_beside.specs.Keeping.{positions_by, positions_of}
-use Rattle.hh_beside.specs.PositionLaws.{MadeAnewAreRight, MadeAnewAreWritten}
+use Rattle.hh_beside.specs.PositionLaws.{MadeAnewAreWritten}
 use Rattle.hh_beside.proofs.PositionKeys.{exact_position_keys, position_key_total}
 use Rattle.hh_beside.proofs.PositionLists.{are_right, of_contracts}
 use Rattle.hh_beside.proofs.PositionNets.{net_is_rows, part_of_row}
@@ -62,7 +63,8 @@ made_named (r ∷ rows) positions =
     (from_true _ (stays-made rows new (position_key r r.contract.counterparties.buyer) (buys-with_replaced None r positions))))
     (made_named rows new)
 
-pub made_anew_are_right : MadeAnewAreRight
+pub made_anew_are_right : (tables : Registered)
+    → IsTrue (are_positions_right tables (positions_by tables))
 made_anew_are_right tables =
     let rows : List ContractRow = filter_map (row_in_force tables) tables.contracts in
     let positions : Table PositionKey Position = positions_by tables in

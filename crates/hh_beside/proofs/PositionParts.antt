@@ -1,6 +1,6 @@
--- Changed positions that are read before a table, parts of what is in force, and parts of the positions.
+-- Parts of what is in force, and parts of the positions.
 use Rattle.std.proofs.Common.{◌≡◌, List, [], ◌∷◌, refl, ap, sym, ◌∙◌, cond, Option, Some, None}
-use Rattle.std.specs.Prelude.{ℤ, pos, ◌-ℤ◌, option_map, unwrap_or}
+use Rattle.std.specs.Prelude.{ℤ, pos, ◌-ℤ◌, option_map, All}
 use Rattle.std.specs.FinMap.{find, put}
 use Rattle.std.specs.FinMap.Entries.{find-put, same_entries}
 use Rattle.std.specs.List.{AllByRecursion}
@@ -19,20 +19,12 @@ use Rattle.hh_rules.specs.History.{Registered}
 use Rattle.hh_rules.specs.Positions.{with_moved, position_in, position_key, position_key_cmp, position_plus, volume_of, with_replaced}
 use Rattle.hh_rules.specs.RegisterView.{AgreesOn}
 use Rattle.hh_rules.specs.declared.positions.Position.{Position}
-use Rattle.hh_rules.specs.declared.positions.Position.TheVariants.{Known}
 use Rattle.hh_rules.specs.declared.positions.PositionKey.{PositionKey}
 use Rattle.hh_beside.specs.Keeping.{positions_with, replaced_by}
-use Rattle.hh_beside.specs.PositionLaws.{AgreesOnPositions, ArePartOf, MovedOnceChanged, PartsGivePositions, PartsServe}
+use Rattle.hh_beside.specs.PositionLaws.{AgreesOnPositions, ArePartOf, PartsServe}
 use Rattle.hh_beside.proofs.PositionKeys.{exact_position_keys, position_key_total}
 use Rattle.hh_beside.proofs.PositionTables.{moved_table, position_in-moved}
 use Rattle.hh_beside.proofs.PositionWrites.{found_changed, one_more_changed}
-
-pub moved_once_changed : MovedOnceChanged
-moved_once_changed changed positions key volume h k =
-    let seen : Option Position = option_or (find position_key_cmp key changed) (find position_key_cmp key positions) in
-    one_more_changed changed positions key (position_plus volume (unwrap_or seen (Known (pos 0)))) h k
-    ∙ ap (λ o. put position_key_cmp key (position_plus volume (unwrap_or o (Known (pos 0)))) (put_all position_key_cmp changed positions))
-    (sym (found_changed changed positions key (from_true _ h)))
 
 -- ---- parts of what is in force
 
@@ -86,7 +78,9 @@ all_one_volume : (whole part : Registered) (rows : List Row) → AllByRecursion 
 all_one_volume whole part [] all = tt
 all_one_volume whole part (r ∷ rows) all = (one_volume whole part r all.0, all_one_volume whole part rows all.1)
 
-pub parts_give_positions : PartsGivePositions
+pub parts_give_positions : (rows : List Row) (whole part : Registered) (positions : Table PositionKey Position)
+    → All (AgreesOn whole part) rows
+    → positions_with rows part.contracts positions ≡ positions_with rows whole.contracts positions
 parts_give_positions rows whole part positions all =
     by_both rows part.contracts whole.contracts positions (all_one_volume whole part rows (recursion_from_All (AgreesOn whole part) rows all))
 

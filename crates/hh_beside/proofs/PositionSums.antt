@@ -39,7 +39,7 @@ use Rattle.hh_state_laws.proofs.ConsistentLaws.{reached_consistent}
 use Rattle.hh_state_laws.proofs.ReadyLaws.{account_there, parties_rise}
 use Rattle.hh_calc.specs.Formulas.{net_kwh_of}
 use Rattle.hh_states.specs.Beside.{net_position}
-use Rattle.hh_beside.specs.PositionLaws.{KnownAreNets, PositionsSumToZero, are_known, is_known, position_key_at, volume_in, net_volumes_at}
+use Rattle.hh_beside.specs.PositionLaws.{KnownAreNets, are_known, is_known, position_key_at, volume_in, net_volumes_at}
 use Rattle.hh_beside.proofs.PositionLists.{right_are}
 use Rattle.hh_beside.proofs.PositionNets.{row_by}
 use Rattle.hh_beside.proofs.PositionTables.{AreOf, IsOf, some_stays}
@@ -113,9 +113,6 @@ module _ (tables : Registered) (at : SettlementPeriod) where
       ∙ all_rows accounts_then
       (parties_rise (filter (λ e. holds e.1.range at.date) tables.parties) (sorted-filter bytes_cmp (λ e. holds e.1.range at.date) tables.parties (from_true _ consistent.rising.parties)))
       (rows_in_force tables at) (rows_among tables.contracts consistent.contracts)
-
-pub positions_sum_to_zero : PositionsSumToZero
-positions_sum_to_zero tables at consistent = zero_over tables at consistent
 
 -- a known position gives its net volume
 volume_is : (net : ℤ) (p : Position) → T (is_known p) → IsOf net p → volume_in p ≡ net

@@ -1,50 +1,20 @@
--- Tables of positions by what is found in them, and what rows write into them.
-use Rattle.std.proofs.Common.{◌≡◌, List, [], ◌∷◌, refl, ap, sym, ◌∙◌, Bool, true, false, cond, Option, Some, None}
-use Rattle.std.specs.Prelude.{ℤ, T}
+-- Tables of positions by what is found in them, after others are put into them.
+use Rattle.std.proofs.Common.{◌≡◌, [], ◌∷◌, refl, ap, sym, ◌∙◌, Bool, true, false, cond, Option, Some, None}
+use Rattle.std.specs.Prelude.{T}
 use Rattle.std.specs.Cmp.{Equal-is}
 use Rattle.std.specs.FinMap.{find, is_sorted, put}
 use Rattle.std.specs.FinMap.Entries.{find-put, find_tied, is_sorted-put, same_entries}
 use Rattle.std.specs.Option.{option_or}
 use Rattle.std.specs.Ordering.{eq_by_cmp}
-use Rattle.hh_tables.specs.Tables.{Table, put_all}
-use Rattle.hh_tables.proofs.MergeLaws.{from_true, true_from}
+use Rattle.hh_tables.specs.Tables.{IsTable, Table, put_all}
+use Rattle.hh_tables.proofs.MergeLaws.{from_true}
 use Rattle.hh_tables.proofs.RowLaws.{first, is_sorted-put_all, second}
-use Rattle.hh_rows.specs.Keys.{contract_key_cmp}
-use Rattle.hh_rows.specs.declared.keys.ContractKey.{ContractKey}
-use Rattle.hh_rows.specs.declared.rows.Row.{Row}
 use Rattle.hh_rows.specs.declared.rows.Row.TheVariants as row
-use Rattle.hh_rules.specs.Positions.{position_key_cmp, with_replaced}
+use Rattle.hh_rules.specs.Positions.{position_key_cmp}
 use Rattle.hh_rules.specs.declared.positions.Position.{Position}
 use Rattle.hh_rules.specs.declared.positions.PositionKey.{PositionKey}
-use Rattle.hh_beside.specs.Keeping.{positions_with, replaced_by}
-use Rattle.hh_beside.specs.PositionLaws.{FoundOnceChanged, OneMoreChanged, PositionsStayTable, WrittenAreAfter}
 use Rattle.hh_beside.proofs.PositionKeys.{exact_position_keys, position_key_total}
 use Rattle.hh_beside.proofs.PositionLists.{not_below}
-use Rattle.hh_beside.proofs.PositionTables.{with_replaced_table}
-
-still_table : (rows : List Row) (volumes : Table ContractKey ℤ) (positions : Table PositionKey Position) → T (is_sorted position_key_cmp positions)
-    → T (is_sorted position_key_cmp (positions_with rows volumes positions))
-still_table [] volumes positions h = h
-still_table (row.Party r ∷ rows) volumes positions h = still_table rows volumes positions h
-still_table (row.Unit r ∷ rows) volumes positions h = still_table rows volumes positions h
-still_table (row.Meter r ∷ rows) volumes positions h = still_table rows volumes positions h
-still_table (row.Price r ∷ rows) volumes positions h = still_table rows volumes positions h
-still_table (row.Contract r ∷ rows) volumes positions h =
-    still_table rows (put contract_key_cmp r.key r.contract.volume volumes) (with_replaced (replaced_by r volumes) r positions) (with_replaced_table (replaced_by r volumes) r positions h)
-still_table (row.Reallocation r ∷ rows) volumes positions h = still_table rows volumes positions h
-
-pub positions_stay_table : PositionsStayTable
-positions_stay_table rows volumes positions h = true_from _ (still_table rows volumes positions (from_true _ h))
-
-pub written_are_after : WrittenAreAfter
-written_are_after [] volumes positions = refl
-written_are_after (row.Party r ∷ rows) volumes positions = written_are_after rows volumes positions
-written_are_after (row.Unit r ∷ rows) volumes positions = written_are_after rows volumes positions
-written_are_after (row.Meter r ∷ rows) volumes positions = written_are_after rows volumes positions
-written_are_after (row.Price r ∷ rows) volumes positions = written_are_after rows volumes positions
-written_are_after (row.Contract r ∷ rows) volumes positions =
-    written_are_after rows (put contract_key_cmp r.key r.contract.volume volumes) (with_replaced (replaced_by r volumes) r positions)
-written_are_after (row.Reallocation r ∷ rows) volumes positions = written_are_after rows volumes positions
 
 -- what is found in changed positions, or otherwise in the table
 pub found_changed : (changed positions : Table PositionKey Position) (key : PositionKey) → T (is_sorted position_key_cmp changed)
@@ -62,10 +32,10 @@ found_changed (e ∷ changed) positions key h =
       | false ↦ λ other. refl
     ] refl
 
-pub found_once_changed : FoundOnceChanged
-found_once_changed changed positions key h = found_changed changed positions key (from_true _ h)
-
-pub one_more_changed : OneMoreChanged
+pub one_more_changed : (changed positions : Table PositionKey Position) (key : PositionKey) (position : Position)
+    → IsTable position_key_cmp changed → IsTable position_key_cmp positions
+    → put_all position_key_cmp (put position_key_cmp key position changed) positions
+    ≡ put position_key_cmp key position (put_all position_key_cmp changed positions)
 one_more_changed changed positions key position h k =
     let sorted : T (is_sorted position_key_cmp changed) = from_true _ h in
     let rising : T (is_sorted position_key_cmp positions) = from_true _ k in

@@ -6,7 +6,7 @@ use crate::records::Found;
 use crate::wrong_rows::WrongRow;
 use hh_names::{Fault, Refusal};
 use hh_rows::{FileKind, Row};
-use hh_texts::{Form, LastDate};
+use hh_texts::{Form, LastDate, forms_of};
 use std::alloc::{AllocError, Global};
 
 /// A file of rows that was to be loaded.
@@ -19,12 +19,15 @@ pub struct RowsFile<'a> {
 }
 
 impl<'a> RowsFile<'a> {
-    /// The file with its header.
+    /// The file with the header that it usually has.
     fn headed(&self) -> HeadedFile<'a> {
         HeadedFile {
             path: self.path,
             body: self.body,
-            header: self.kind.header(),
+            header: match forms_of(self.kind).first() {
+                Some(form) => form.header(),
+                None => &[],
+            },
         }
     }
 }
@@ -82,8 +85,9 @@ fn row_refused(alloc: Global, file: &RowsFile<'_>, fault: &Fault) -> Result<Stri
 
 /// The row that a record of a kind reads as, if it does.
 fn row_in(kind: FileKind, found: &Found<'_>) -> Option<Row> {
-    if found.fields.len() == kind.header().len() {
-        kind.read_row(&found.fields, &mut LastDate::new()).ok()
+    let form = forms_of(kind).first()?;
+    if found.fields.len() == form.header().len() {
+        form.read_row(&found.fields, &mut LastDate::new()).ok()
     } else {
         None
     }

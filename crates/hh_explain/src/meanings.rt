@@ -60,6 +60,8 @@ pub fn refused(fault: &Fault) -> &'static str {
         Refusal::BadRequest => "the request is off its form, or was cut",
         Refusal::BodyTooLarge => "the body has too many bytes",
         Refusal::Memory => "the system refused memory",
-        Refusal::Store => "the database failed, or holds no tables of this version",
+        Refusal::Store => {
+            "the database can't be used, as when another program has it open, an earlier version made it, or it is no office's"
+        }
     }
 }

@@ -1,3 +1,3 @@
 mod RefusedLaws
 pub mod ReplyLemmas
-pub mod TextLemmas
+mod TextLemmas

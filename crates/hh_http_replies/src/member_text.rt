@@ -4,7 +4,7 @@ ghost use Rattle.std.specs.Prelude.{◌≡◌, IfOk, IsAscii, string_bytes};
 ghost use Rattle.hh_num.specs.Fixed.{fixed_text};
 ghost use Rattle.hh_time.specs.DateText.{date_text};
 
-use hh_num::{Quantity, Scaled, reads_back, write_fixed};
+use hh_num::{Quantity, Scaled, write_fixed};
 use hh_time::SettlementDate;
 use std::alloc::{AllocError, Global};
 
@@ -12,8 +12,6 @@ use std::alloc::{AllocError, Global};
 pub(crate) fn date_text(alloc: Global, date: SettlementDate) -> Result<String, AllocError>
     ensures { IfOk result (λ text. string_bytes text ≡ date_text date) }
 {
-    // The range of its number limits the digits of its text.
-    let _days = date.number();
     let bytes = Vec::from_slice(alloc, &date.text())?;
     Ok(ascii_text(bytes))
 }
@@ -25,8 +23,6 @@ pub(crate) fn number_text<Q: Quantity>(
 ) -> Result<String, AllocError>
     ensures { IfOk result (λ text. string_bytes text ≡ fixed_text Q.decimals number) }
 {
-    // Does nothing, but carries a law for the proof: the text is in the grammar of decimals.
-    reads_back();
     let mut bytes = Vec::new(alloc);
     write_fixed(number.units(), Q::decimals(), &mut bytes)?;
     Ok(ascii_text(bytes))

@@ -11,7 +11,7 @@ use Rattle.hh_script.specs.Steps.{Step}
 use Rattle.hh_session.proofs.GivingUpLaws.{script_then}
 use Rattle.hh_session.specs.Course.{AllDone, AllDoneButLast, LastNotDone, cut_after}
 use Rattle.hh_sqlstore.specs.Holds.{Holds}
-use Rattle.hh_sqlstore.specs.Leaving.{IsTakenOver}
+use Rattle.hh_sqlstore.specs.TakenOver.{IsTakenOver}
 use Rattle.hh_sqlstore.specs.Values.{version}
 use Rattle.hh_kept_office.specs.declared.stop.DatabaseStop.{DatabaseStop}
 use Rattle.hh_kept_office.specs.declared.stop.DatabaseStop.TheVariants as database

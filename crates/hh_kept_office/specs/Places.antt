@@ -5,7 +5,7 @@ use Rattle.sqlite_trees.specs.declared.store.Store.{Ghosts}
 use Rattle.sqlite.specs.Held.{Held, state}
 use Rattle.sqlite.specs.State.{State}
 use Rattle.hh_store.specs.declared.store_fault.StoreFault.{StoreFault}
-use Rattle.hh_sqlstore.specs.Leaving.{IsTakenOver}
+use Rattle.hh_sqlstore.specs.TakenOver.{IsTakenOver}
 
 -- A database as a connection sees it: whether the connection is open, the database in its transaction, and the database of the last commit.
 -- The latter two say nothing if the connection is closed.

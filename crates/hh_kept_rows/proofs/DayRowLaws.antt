@@ -1,18 +1,17 @@
 -- A Settlement Day settled by its own rows: what is found among all rows is found among those of the date.
-use Rattle.std.proofs.Common.{◌≡◌, ℕ, List, [], ◌∷◌, ◌++◌, map, refl, sym, ap, subst, ◌∙◌, Bool, true, false, cond, Option, Some, Ordering, arith}
-use Rattle.std.specs.Prelude.{ℤ, pos, ◌==◌, ◌&&◌, ◌||◌, filter, filter_map, find, is_none, option_map, unwrap_or}
+use Rattle.std.proofs.Common.{◌≡◌, ℕ, List, [], ◌∷◌, ◌++◌, map, refl, sym, ap, subst, ◌∙◌, Bool, true, false, cond, Option, Some}
+use Rattle.std.specs.Prelude.{ℤ, pos, filter, filter_map, find, is_none, option_map, unwrap_or, All}
 use Rattle.std.specs.Cmp.{Equal-is}
 use Rattle.std.specs.FinMap.{find as entry_at}
-use Rattle.std.specs.List.{AllByRecursion, cons_option, flat_map, list_any}
+use Rattle.std.specs.List.{AllByRecursion, cons_option, flat_map}
 use Rattle.std.specs.Ordering.{eq_by_cmp}
-use Rattle.std.proofs.lemmas.List.Elements.{recursion_from_All, All-from_recursion}
-use Rattle.hh_tables.specs.Tables.{Table}
+use Rattle.std.proofs.lemmas.List.Elements.{recursion_from_All}
 use Rattle.hh_names.specs.declared.values.Reading.{Reading}
 use Rattle.hh_names.specs.PartyAccounts.{both_accounts}
 use Rattle.hh_names.specs.Accounts.{bytes_cmp}
-use Rattle.hh_rows.proofs.KeyLaws.{exact_settlement_periods, exact_unit_periods}
+use Rattle.hh_rows.proofs.KeyLaws.{exact_settlement_periods}
 use Rattle.hh_rows.specs.DateRanges.{holds}
-use Rattle.hh_rows.specs.Keys.{settlement_period_cmp, unit_period_cmp}
+use Rattle.hh_rows.specs.Keys.{settlement_period_cmp}
 use Rattle.hh_rows.specs.declared.keys.ContractKey.{ContractKey}
 use Rattle.hh_rows.specs.declared.keys.UnitPeriod.{UnitPeriod}
 use Rattle.hh_rows.specs.declared.rows.UnitRegistration.{UnitRegistration}
@@ -26,9 +25,7 @@ use Rattle.hh_calc.specs.Terms.{Rows, unit_data, period_data}
 use Rattle.hh_states.specs.DaySettlement.{from_one_to, missing_meter, missing_price, periods_on, unit_periods_at}
 use Rattle.hh_states.specs.PeriodSettlement.{accounts_on, price_of, reading_of, row_in_force, rows_in_force, terms_at, unit_at, units_on}
 use Rattle.hh_states.specs.Reads.{names_account}
-use Rattle.hh_store.specs.declared.day_data.PeriodState.{PeriodState}
-use Rattle.hh_store.specs.DayReads.{IsStateOf, ArePeriodsOf}
-use Rattle.hh_kept_rows.specs.DayRows.{AgreesOnUnitAt, ContractsByTheirRows, HasContractsOn, HasRowsOn, PartsOfParts, ReadByItsRows, RowsOfADate, SettledByItsRows, is_reference_on, rows_on, volumes_at}
+use Rattle.hh_kept_rows.specs.DayRows.{AgreesOnUnitAt, ContractsByTheirRows, HasContractsOn, HasRowsOn, PartsOfParts, volumes_at}
 
 -- two tests that agree on each element find the same
 find_alike : {X : Type 0} (f g : X → Bool) (xs : List X) → AllByRecursion (λ x. f x ≡ g x) xs → find f xs ≡ find g xs
@@ -69,9 +66,6 @@ same_date : (a b : SettlementPeriod) → eq_by_cmp settlement_period_cmp a b ≡
 same_date a b same = ap (λ (p : SettlementPeriod). p.date) (exact_settlement_periods a b ((Equal-is (settlement_period_cmp a b)).0 same))
 
 module _ (date : ℕ) (whole part : Registered) (has : HasContractsOn date whole part) (at : SettlementPeriod) (on : at.date ≡ date) where
-  is_here : ContractKey × ℤ → Bool
-  is_here e = eq_by_cmp settlement_period_cmp e.0.at at
-
   row_alike : (e : ContractKey × ℤ) → (e.0.at.date ≡ date → entry_at bytes_cmp e.0.reference part.references ≡ entry_at bytes_cmp e.0.reference whole.references)
       → eq_by_cmp settlement_period_cmp e.0.at at ≡ true → row_in_force part e ≡ row_in_force whole e
   row_alike e alike here =
@@ -138,50 +132,23 @@ module _ (date : ℕ) (whole part : Registered) (has : HasRowsOn date whole part
       (λ i. find (λ key. is_none (reading_of part key)) (flat_map (λ at. map (λ e. record { unit = e.0; at = at }) (filter (λ e. holds e.1.range at.date) (has.units i))) periods))
       ∙ find_alike (λ key. is_none (reading_of part key)) (λ key. is_none (reading_of whole key)) (flat_map (unit_periods_at whole) periods) (keys_alike_in periods on)
 
-pub settled_alike : SettledByItsRows
+-- the Settlement Periods of a date are settled from the part as from the whole, and the same is missing for them
+pub record SettlesAlike (date : ℕ) (whole part : Registered) : Type 0 where
+  pub missing_price : (periods : List SettlementPeriod) → All (λ at. at.date ≡ date) periods
+      → missing_price part periods ≡ missing_price whole periods
+  pub missing_meter : (periods : List SettlementPeriod) → All (λ at. at.date ≡ date) periods
+      → missing_meter part periods ≡ missing_meter whole periods
+  pub terms : (at : SettlementPeriod) → at.date ≡ date → terms_at part at ≡ terms_at whole at
+
+pub settled_alike : (date : ℕ) (whole part : Registered) → HasRowsOn date whole part → SettlesAlike date whole part
 settled_alike date whole part has = record {
   missing_price = λ periods on. lack_alike date whole part has periods (recursion_from_All _ periods on);
   missing_meter = λ periods on. meters_alike date whole part has periods (recursion_from_All _ periods on);
   terms = terms_alike date whole part has;
 }
 
--- each of these Settlement Periods of the date is settled from the same in the part as in the whole
-module _ (date : ℕ) (whole part : Registered) (has : HasRowsOn date whole part) where
-  periods_alike : (periods : List SettlementPeriod) (states : List PeriodState) → AllByRecursion (λ (at : SettlementPeriod). at.date ≡ date) periods
-      → ArePeriodsOf part periods states → ArePeriodsOf whole periods states
-  periods_alike [] [] on are = are
-  periods_alike [] (state ∷ states) on are = are
-  periods_alike (at ∷ periods) [] on are = are
-  periods_alike (at ∷ periods) (state ∷ states) on are =
-      (subst (λ p. IsStateOf p state) (terms_alike date whole part has at on.0) are.0, periods_alike periods states on.1 are.1)
-
-pub read_alike : ReadByItsRows
-read_alike date whole part has periods on day is =
-    let of_date = recursion_from_All _ periods on in
-    let prices = lack_alike date whole part has periods of_date in
-    let meters = meters_alike date whole part has periods of_date in
-    record {
-      price = is.price ∙ prices;
-      meter = is.meter ∙ meters;
-      terms = λ no_price no_meter. periods_alike date whole part has periods day.periods.items of_date (is.terms (prices ∙ no_price) (meters ∙ no_meter));
-    }
-
 true_is_not_false : true ≡ false → ⊥
 true_is_not_false e = cc
-
--- a key is found among the rows that are kept if its row is kept
-find_kept : {K V : Type 0} (R : K → K → Ordering) (keeps : K → Bool) (es : Table K V) (k : K) → ((q : K) → eq_by_cmp R k q ≡ true → keeps q ≡ true)
-    → entry_at R k (filter (λ e. keeps e.0) es) ≡ entry_at R k es
-find_kept R keeps [] k kept = refl
-find_kept R keeps (e ∷ es) k kept =
-    let rest = find_kept R keeps es k kept in
-    elim (keeps e.0) as (λ b. keeps e.0 ≡ b → entry_at R k (cond b (e ∷ filter (λ x. keeps x.0) es) (filter (λ x. keeps x.0) es)) ≡ cond (eq_by_cmp R k e.0) (Some e.1) (entry_at R k es)) [
-      | true ↦ λ stays. ap (cond (eq_by_cmp R k e.0) (Some e.1)) rest
-      | false ↦ λ goes. elim (eq_by_cmp R k e.0) as (λ t. eq_by_cmp R k e.0 ≡ t → entry_at R k (filter (λ x. keeps x.0) es) ≡ cond t (Some e.1) (entry_at R k es)) [
-        | true ↦ λ same. absurd (true_is_not_false (sym (kept e.0 same) ∙ goes))
-        | false ↦ λ apart. rest
-      ] refl
-    ] refl
 
 -- the rows that pass a test are the same among the rows that are kept, if each of them is kept
 pub filter_kept : {X : Type 0} (keeps test : X → Bool) (xs : List X) → ((x : X) → test x ≡ true → keeps x ≡ true) → filter test (filter keeps xs) ≡ filter test xs
@@ -195,65 +162,6 @@ filter_kept keeps test (x ∷ xs) kept =
         | false ↦ λ fails. rest
       ] refl
     ] refl
-
-or_true : (b : Bool) → (b || true) ≡ true
-or_true true = refl
-or_true false = refl
-
-true_or : (a b : Bool) → a ≡ true → (a || b) ≡ true
-true_or a b is = ap (λ x. x || b) is
-
--- if an element of a list passes a test, some element of the list does
-each_found : {X : Type 0} (xs : List X) → AllByRecursion (λ x. (test : X → Bool) → test x ≡ true → list_any test xs ≡ true) xs
-each_found [] = tt
-each_found {X = X} (x ∷ xs) = (
-  λ test is. true_or (test x) (list_any test xs) is,
-  all_weaker (λ y. (test : X → Bool) → test y ≡ true → list_any test xs ≡ true) (λ y. (test : X → Bool) → test y ≡ true → list_any test (x ∷ xs) ≡ true)
-      (λ y found test is. ap (λ b. test x || b) (found test is) ∙ or_true (test x)) xs (each_found xs),
-)
-
-is_on : (a date : ℕ) → a ≡ date → (a == date) ≡ true
-is_on a date on = grind (arith)
-
-module _ (date : ℕ) (whole : Registered) where
-  unit_kept : (unit : List ℕ) (at : SettlementPeriod) → at.date ≡ date → AgreesOnUnitAt whole (rows_on date whole) unit at
-  unit_kept unit at on =
-      let key : UnitPeriod = record { unit = unit; at = at } in
-      record {
-        reading = find_kept unit_period_cmp (λ q. q.at.date == date) whole.meters key
-            (λ q same. is_on q.at.date date (ap (λ (u : UnitPeriod). u.at.date) (sym (exact_unit_periods key q ((Equal-is (unit_period_cmp key q)).0 same))) ∙ on));
-        reallocations = filter_kept (λ e. e.0.unit_period.at.date == date) (λ e. eq_by_cmp unit_period_cmp e.0.unit_period key) whole.reallocations
-            (λ e same. is_on e.0.unit_period.at.date date (ap (λ (u : UnitPeriod). u.at.date) (exact_unit_periods e.0.unit_period key ((Equal-is (unit_period_cmp e.0.unit_period key)).0 same)) ∙ on));
-      }
-
-  units_kept : (at : SettlementPeriod) → at.date ≡ date → (us : Table (List ℕ) UnitRegistration) → AllByRecursion (λ u. AgreesOnUnitAt whole (rows_on date whole) u.0 at) us
-  units_kept at on [] = tt
-  units_kept at on (u ∷ us) = (unit_kept u.0 at on, units_kept at on us)
-
-  reference_kept : (e : ContractKey × ℤ) → ((test : ContractKey × ℤ → Bool) → test e ≡ true → list_any test whole.contracts ≡ true)
-      → e.0.at.date ≡ date → entry_at bytes_cmp e.0.reference (rows_on date whole).references ≡ entry_at bytes_cmp e.0.reference whole.references
-  reference_kept e found on =
-      find_kept bytes_cmp (is_reference_on whole date) whole.references e.0.reference
-      (λ q same. found (λ c. (c.0.at.date == date) && eq_by_cmp bytes_cmp c.0.reference q) (λ i. is_on e.0.at.date date on i && same i))
-
-  contracts_kept : HasContractsOn date whole (rows_on date whole)
-  contracts_kept = record {
-    volumes = λ at on. filter_kept (λ e. e.0.at.date == date) (λ e. eq_by_cmp settlement_period_cmp e.0.at at) whole.contracts
-        (λ e same. is_on e.0.at.date date (same_date e.0.at at same ∙ on));
-    references = All-from_recursion _ whole.contracts
-        (all_weaker (λ e. (test : ContractKey × ℤ → Bool) → test e ≡ true → list_any test whole.contracts ≡ true)
-        (λ e. e.0.at.date ≡ date → entry_at bytes_cmp e.0.reference (rows_on date whole).references ≡ entry_at bytes_cmp e.0.reference whole.references)
-        reference_kept whole.contracts (each_found whole.contracts));
-  }
-
-pub rows_kept : RowsOfADate
-rows_kept date whole = record {
-  parties = refl;
-  units = refl;
-  prices = λ at on. find_kept settlement_period_cmp (λ q. q.date == date) whole.prices at (λ q same. is_on q.date date (sym (same_date at q same) ∙ on));
-  of_units = λ at on. All-from_recursion _ (units_on whole date) (units_kept date whole at on (units_on whole date));
-  contracts = contracts_kept date whole;
-}
 
 -- if the first agrees with the second and the second with the third, the first agrees with the third
 agrees_through : (whole middle part : Registered) (r : Row) → AgreesOn whole middle r → AgreesOn middle part r → AgreesOn whole part r

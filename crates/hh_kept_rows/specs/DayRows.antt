@@ -1,8 +1,7 @@
 -- The rows of a Settlement Day out of all that is registered and in force: what a part must have of the whole so that the day is
 -- settled from it as from the whole.
-use Rattle.std.specs.Prelude.{◌≡◌, ℕ, ◌==◌, ◌&&◌, ℤ, List, filter, All, Bool}
+use Rattle.std.specs.Prelude.{◌≡◌, ℕ, ℤ, List, filter, All}
 use Rattle.std.specs.FinMap.{find}
-use Rattle.std.specs.List.{list_any}
 use Rattle.std.specs.Ordering.{eq_by_cmp}
 use Rattle.hh_tables.specs.Tables.{Table}
 use Rattle.hh_names.specs.declared.account.Account.{Account}
@@ -13,11 +12,8 @@ use Rattle.hh_rows.specs.declared.rows.Row.{Row}
 use Rattle.hh_rows.specs.declared.settlement_period.SettlementPeriod.{SettlementPeriod}
 use Rattle.hh_rules.specs.History.{Registered}
 use Rattle.hh_rules.specs.RegisterView.{RegisterView, ServesFor, reallocations_at}
-use Rattle.hh_states.specs.DaySettlement.{missing_meter, missing_price}
-use Rattle.hh_states.specs.PeriodSettlement.{price_of, reading_of, terms_at, units_on}
+use Rattle.hh_states.specs.PeriodSettlement.{price_of, reading_of, units_on}
 use Rattle.hh_states.specs.Reads.{contracts_of}
-use Rattle.hh_store.specs.declared.day_data.DayData.{DayData}
-use Rattle.hh_store.specs.DayReads.{IsDayData}
 
 -- the volumes in force in a Settlement Period
 abbrev pub volumes_at : Registered → SettlementPeriod → Table ContractKey ℤ
@@ -45,50 +41,10 @@ pub record HasRowsOn (date : ℕ) (whole part : Registered) : Type 0 where
       → All (λ u. AgreesOnUnitAt whole part u.0 at) (units_on whole date)
   pub contracts : HasContractsOn date whole part
 
--- the Settlement Periods of a date are settled from the part as from the whole, and the same is missing for them
-pub record SettlesAlike (date : ℕ) (whole part : Registered) : Type 0 where
-  pub missing_price : (periods : List SettlementPeriod) → All (λ at. at.date ≡ date) periods
-      → missing_price part periods ≡ missing_price whole periods
-  pub missing_meter : (periods : List SettlementPeriod) → All (λ at. at.date ≡ date) periods
-      → missing_meter part periods ≡ missing_meter whole periods
-  pub terms : (at : SettlementPeriod) → at.date ≡ date → terms_at part at ≡ terms_at whole at
-
--- whether a contract of a date has this reference
-abbrev pub is_reference_on : Registered → ℕ → List ℕ → Bool
-is_reference_on tables date reference =
-    list_any (λ e. (e.0.at.date == date) && eq_by_cmp bytes_cmp e.0.reference reference) tables.contracts
-
--- the rows of a date: all parties and units, the prices, readings, contracts and reallocations of the date, and the references
--- of its contracts
-abbrev pub rows_on : ℕ → Registered → Registered
-rows_on date tables = record {
-  parties = tables.parties;
-  units = tables.units;
-  references = filter (λ e. is_reference_on tables date e.0) tables.references;
-  meters = filter (λ e. e.0.at.date == date) tables.meters;
-  prices = filter (λ e. e.0.date == date) tables.prices;
-  contracts = filter (λ e. e.0.at.date == date) tables.contracts;
-  reallocations = filter (λ e. e.0.unit_period.at.date == date) tables.reallocations;
-}
-
--- a date has the same settlement from all rows as from those of the date
-abbrev pub SettledByItsRows : Type 0
-SettledByItsRows = (date : ℕ) (whole part : Registered) → HasRowsOn date whole part → SettlesAlike date whole part
-
--- what is read of its Settlement Periods from the rows of the date is what is read of them from all rows
-abbrev pub ReadByItsRows : Type 0
-ReadByItsRows = (date : ℕ) (whole part : Registered) → HasRowsOn date whole part
-    → (periods : List SettlementPeriod) → All (λ at. at.date ≡ date) periods
-    → (day : DayData) → IsDayData part periods day → IsDayData whole periods day
-
--- and its contracts are the same
+-- a date has the same contracts from a part that has the contracts of the date as from all rows
 abbrev pub ContractsByTheirRows : Type 0
 ContractsByTheirRows = (date : ℕ) (whole part : Registered) → HasContractsOn date whole part
     → (account : Account) → contracts_of account date part ≡ contracts_of account date whole
-
--- the rows of a date are such a part
-abbrev pub RowsOfADate : Type 0
-RowsOfADate = (date : ℕ) (whole : Registered) → HasRowsOn date whole (rows_on date whole)
 
 -- a part of a part that serves for some rows serves for them
 abbrev pub PartsOfParts : Type 0

@@ -1,30 +1,12 @@
 //! Laws on parts of what is registered and in force. Each is the contract of a function that does nothing.
 
 ghost use Rattle.hh_kept_rows.specs.DayBeside.{ReadByWhatIsBeside};
-ghost use Rattle.hh_kept_rows.specs.DayRows.{ContractsByTheirRows, PartsOfParts, ReadByItsRows, RowsOfADate, SettledByItsRows};
-
-/// A Settlement Day has the same settlement from all that is registered and in force as from a part that
-/// has the rows of its date.
-pub fn settled_by_its_rows()
-    ensures { SettledByItsRows }
-{}
-
-/// What is read of a Settlement Day from a part that has the rows of its date is what is read of it from
-/// all that is registered and in force.
-pub fn read_by_its_rows()
-    ensures { ReadByItsRows }
-{}
+ghost use Rattle.hh_kept_rows.specs.DayRows.{ContractsByTheirRows, PartsOfParts};
 
 /// The contracts of an account on a date are the same by all that is in force as by a part that has the
 /// contracts of the date.
 pub fn contracts_by_their_rows()
     ensures { ContractsByTheirRows }
-{}
-
-/// A part has the rows of a date if it has all parties and units, the prices, readings, contracts and
-/// reallocations of the date, and the references of these contracts.
-pub fn rows_of_a_date()
-    ensures { RowsOfADate }
 {}
 
 /// A part of a part that serves for some rows serves for them.

@@ -6,8 +6,7 @@
 //! `KeptRegister::contracts` an account's contracts. `KeptRegister::day_data` gives what the
 //! Settlement Periods of a day are settled from, and `KeptRegister::day_data_beside` takes over
 //! those that haven't changed since the date's latest run. Both give the same settlement if what is
-//! kept beside agrees with the tables (`read_by_what_is_beside`). A part that has the rows of a
-//! date settles as the whole does (`settled_by_its_rows`). `write_day_report_of`,
+//! kept beside agrees with the tables (`read_by_what_is_beside`). `write_day_report_of`,
 //! `write_results_of` and `write_balances_of` write the texts of the reports. Which periods are
 //! taken over is only tested.
 #![tactic(auto)]
@@ -33,9 +32,6 @@ pub use hh_beside::{
 };
 pub use hh_store::{DayData, KeptFile, LoadChange, OutputFault, RunChange, StoreFault, Tables};
 pub use kept_register::KeptRegister;
-pub use laws::{
-    contracts_by_their_rows, parts_of_parts, read_by_its_rows, read_by_what_is_beside,
-    rows_of_a_date, settled_by_its_rows,
-};
+pub use laws::{contracts_by_their_rows, parts_of_parts, read_by_what_is_beside};
 pub use reports::{write_balances_of, write_day_report_of, write_results_of};
 pub use run_rows::{postings_to, results_of, runs_on};

@@ -3,10 +3,8 @@
 ghost use Rattle.std.specs.Prelude.{◌≡◌, ◌≤◌, filter, map, true, false, IfOk, IfSome};
 ghost use Rattle.std.specs.Ordering.{nat_cmp, ordering_then};
 ghost use Rattle.hh_rules.specs.History.{Registered};
-ghost use Rattle.hh_states.specs.Content.{credit_key_cmp, result_key_cmp};
 ghost use Rattle.hh_states.specs.PeriodSettlement.{accounts_on};
 ghost use Rattle.hh_states.specs.Runs.{run_key_cmp};
-ghost use Rattle.hh_tables.specs.Tables.{IsTable};
 ghost use Rattle.hh_states.specs.Beside.{credit_row, is_among, is_credit_of, is_result_of};
 ghost use Rattle.hh_kept_rows.specs.DayBeside.{IsSameAs};
 
@@ -88,25 +86,12 @@ fn results_at<'a>(
 ) -> &'a [(ResultKey, AccountRow)]
     ensures { result.now ≡ filter (is_result_of run.now period) results.now }
 {
-    let rows = result_rows(results);
+    let rows = results.rows();
     let first = rows.partition_point(|row| order(&row.0.run, row.0.period, run, period).is_lt());
     let (_, rest) = rows.split_at(first);
     let count = rest.partition_point(|row| order(&row.0.run, row.0.period, run, period).is_le());
     let (found, _) = rest.split_at(count);
     found
-}
-
-/// The rows of a table of results.
-fn result_rows(results: &ListTable<ResultKey, AccountRow>) -> &[(ResultKey, AccountRow)]
-    ensures rows { result.now ≡ results.now }
-    ensures rising { IsTable result_key_cmp results.now }
-{
-    let rows = results.rows();
-    // Finds a row that is known. For the proof: the rows of a table rise.
-    if let Some(first) = rows.first() {
-        let _first = results.get(&first.0);
-    }
-    rows
 }
 
 /// The credits of a Settlement Period of a run, by the bytes of the units' ids, then by account.
@@ -117,25 +102,12 @@ fn credits_at<'a>(
 ) -> &'a [(CreditKey, Ticks)]
     ensures { result.now ≡ filter (is_credit_of run.now period) credits.now }
 {
-    let rows = rows_of_credits(credits);
+    let rows = credits.rows();
     let first = rows.partition_point(|row| order(&row.0.run, row.0.period, run, period).is_lt());
     let (_, rest) = rows.split_at(first);
     let count = rest.partition_point(|row| order(&row.0.run, row.0.period, run, period).is_le());
     let (found, _) = rest.split_at(count);
     found
-}
-
-/// The rows of a table of credits.
-fn rows_of_credits(credits: &ListTable<CreditKey, Ticks>) -> &[(CreditKey, Ticks)]
-    ensures rows { result.now ≡ credits.now }
-    ensures rising { IsTable credit_key_cmp credits.now }
-{
-    let rows = credits.rows();
-    // Finds a row that is known. For the proof: the rows of a table rise.
-    if let Some(first) = rows.first() {
-        let _first = credits.get(&first.0);
-    }
-    rows
 }
 
 /// Whether these rows are of these accounts, one of each in order.

@@ -1,5 +1,5 @@
 -- The columns of keys and values are codecs.
-use Rattle.std.proofs.Common.{◌≡◌, ℤ, pos, negsuc, zero, suc, Bool, true, false, Some, refl, ap}
+use Rattle.std.proofs.Common.{◌≡◌, ℕ, ℤ, pos, negsuc, zero, suc, Bool, true, false, Some, refl, ap}
 use Rattle.hh_num.specs.Quantities.{Measure, amounts_of_cash, energies, multipliers, net_volumes, percentages, volumes}
 use Rattle.hh_names.specs.Words.{is_capital_or_digit, is_file_name_byte, is_letter_or_digit, is_reference_byte, is_unit_byte}
 use Rattle.hh_store.specs.positions.Position.{Position}
@@ -9,7 +9,7 @@ use Rattle.hh_keyed_rows.specs.declared.no_columns.NoColumns.{NoColumns}
 use Rattle.hh_keyed_rows.specs.Codecs.{IsCodec}
 use Rattle.hh_keyed_rows.specs.Fields.{access_key_column, file_name_column, party_column, quantity_column, reference_column, unit_column}
 use Rattle.hh_keyed_rows.specs.Keys.{contract_key_columns, credit_key_columns, file_key_columns, one_row_column, position_key_columns, posting_key_columns, reallocation_key_columns, result_key_columns, run_key_columns, unit_period_columns}
-use Rattle.hh_keyed_rows.specs.Values.{most_of_8_bits, most_of_16_bits, most_of_32_bits, amounts_columns, file_columns, no_columns, party_columns, position_columns, position_from, position_numbers, reading_columns, reallocation_columns, settings_columns, summary_columns, unit_columns, version}
+use Rattle.hh_keyed_rows.specs.Values.{most_of_8_bits, most_of_16_bits, most_of_32_bits, amounts_columns, file_columns, no_columns, party_columns, position_columns, position_from, position_numbers, reading_columns, reallocation_columns, settings_columns, settings_columns_of, summary_columns, unit_columns, version}
 use Rattle.hh_keyed_rows.proofs.CodecLaws.{blob_codec, both_codec, coded_codec, none_is_not_some, same_some, via_codec}
 use Rattle.hh_keyed_rows.proofs.FieldLaws.{account_codec, date_codec, file_kind_codec, lead_minutes_codec, mark_codec, number_codec, only_number_codec, operator_key_codec, period_codec, range_codec, run_kind_codec, settlement_period_codec, units_codec, word_codec}
 
@@ -99,8 +99,11 @@ amounts_codec =
     via_codec _ _ (λ a. refl) (λ p. refl) _ (both_codec _ _ energy_codec (both_codec _ _ energy_codec (both_codec _ _ energy_codec
     (both_codec _ _ energy_codec (both_codec _ _ cash_codec cash_codec)))))
 
+pub settings_codec_of : (number : ℕ) → IsCodec (settings_columns_of number)
+settings_codec_of number = via_codec _ _ (λ s. refl) (λ p. refl) _ (both_codec _ _ (only_number_codec number) (both_codec _ _ lead_minutes_codec operator_key_codec))
+
 pub settings_codec : IsCodec settings_columns
-settings_codec = via_codec _ _ (λ s. refl) (λ p. refl) _ (both_codec _ _ (only_number_codec version) (both_codec _ _ lead_minutes_codec operator_key_codec))
+settings_codec = settings_codec_of version
 
 pub position_codec : IsCodec position_columns
 position_codec = coded_codec position_numbers (λ p. position_from p.1 p.0) there (λ p. here p.1 p.0) _ (both_codec _ _ (quantity_codec net_volumes) mark_codec)

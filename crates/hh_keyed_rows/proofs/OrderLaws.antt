@@ -1,5 +1,5 @@
--- If no two rows have the same key, rows represent the same table in any order; and what is found under a key.
-use Rattle.std.proofs.Common.{◌≡◌, ℕ, ◌+◌, ◌≤◌, List, [], ◌∷◌, ◌++◌, Bool, true, false, cond, filter, Option, Some, None, Ordering, is_eq, arith, refl, sym, ap, subst, ◌∙◌, inl, inr}
+-- If no two rows have the same key, rows represent the same table in any order.
+use Rattle.std.proofs.Common.{◌≡◌, ℕ, ◌+◌, ◌≤◌, List, [], ◌∷◌, ◌++◌, Bool, true, false, cond, Option, Some, None, Ordering, is_eq, arith, refl, sym, ap, subst, ◌∙◌, inl, inr}
 use Rattle.std.specs.Prelude.{filter_map, option_to_list}
 use Rattle.std.specs.List.{cons_option, flat_map, sum_by}
 use Rattle.std.specs.List.Sorted.{IsPermutation}
@@ -16,7 +16,7 @@ use Rattle.sqlite_keyed.proofs.ListLemmas.{IsPermutation-flat_map}
 use Rattle.hh_tables.specs.Tables.{in_key_order}
 use Rattle.hh_tables.proofs.TableLaws.{find-in_key_order, is_sorted-in_key_order}
 use Rattle.hh_keyed_rows.specs.KeyedRows.{table_in}
-use Rattle.hh_keyed_rows.specs.Laws.{AreOfOneEach, first_value}
+use Rattle.hh_keyed_rows.specs.Laws.{AreOfOneEach}
 use Rattle.sqlite_rules.specs.Lists.{Has}
 use Rattle.hh_keyed_rows.proofs.CodecLaws.{none_is_not_some, same_some}
 use Rattle.hh_keyed_rows.proofs.PlaceLaws.{is_Equal}
@@ -31,15 +31,6 @@ module _ {K V : Type 0} (R : K → K → Ordering) where
   -- how many entries have a key
   abbrev count_of : K → List (K × V) → ℕ
   count_of q es = sum_by (mark q) es
-
-  pub find_first : (q : K) (es : List (K × V)) → find R q es ≡ first_value (filter (λ e. is_eq (R q e.0)) es)
-  find_first q [] = refl
-  find_first q (e ∷ es) = by_test (find_first q es) (is_eq (R q e.0))
-    where
-      by_test : find R q es ≡ first_value (filter (λ e. is_eq (R q e.0)) es) → (b : Bool)
-          → cond b (Some e.1) (find R q es) ≡ first_value (cond b (e ∷ filter (λ e. is_eq (R q e.0)) es) (filter (λ e. is_eq (R q e.0)) es))
-      by_test later true = refl
-      by_test later false = later
 
   none_counted : (q : K) (es : List (K × V)) → find R q es ≡ None → count_of q es ≡ 0
   none_counted q [] none = refl

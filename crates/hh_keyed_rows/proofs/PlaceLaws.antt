@@ -37,10 +37,6 @@ pub equal_blobs : (s t : List ℕ) → equal Binary (Blob s) (Blob t) ≡ is_eq 
 unfolding binary
 equal_blobs s t = truth_of (is_eq (value_cmp (Blob s) (Blob t))) ∙ ap is_eq (value_cmp-Blob s t)
 
--- values of two kinds are not equal
-apart_kinds : (v w : Value) → is_eq (value_cmp v w) ≡ false → equal Binary v w ≡ is_eq (value_cmp v w) → equal Binary v w ≡ true → v ≡ w
-apart_kinds v w apart is e = absurd (true≢false (sym e ∙ is ∙ apart))
-
 -- plain values that are equal in SQL are the same
 pub equal_same : (v w : Value) → is_discrete v ≡ true → is_discrete w ≡ true → equal Binary v w ≡ true → v ≡ w
 unfolding binary value_cmp

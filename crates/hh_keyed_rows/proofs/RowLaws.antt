@@ -1,23 +1,19 @@
 -- The laws about rows that represent tables, as contracts state them.
-use Rattle.std.proofs.Common.{◌≡◌, List, [], ◌∷◌, ◌++◌, drop, true, Some, Ordering, sym, ap, subst, ◌∙◌}
+use Rattle.std.proofs.Common.{List, [], ◌∷◌, Ordering, sym, ap, subst, ◌∙◌}
 use Rattle.std.specs.List.{AllByRecursion}
 use Rattle.std.specs.FinMap.{put}
-use Rattle.sqlite_value.specs.Keys.{plain}
-use Rattle.sqlite_value.specs.Order.{Row}
-use Rattle.sqlite_schema.specs.Rules.{agree}
 use Rattle.sqlite_schema.specs.declared.schema.Schema.{Schema}
 use Rattle.sqlite_schema.specs.declared.schema.Table as schema
 use Rattle.sqlite_trees.specs.Tree.{Trees}
 use Rattle.sqlite_trees.specs.View.{IsShaped}
 use Rattle.sqlite_trees.specs.declared.store.Shape.TheVariants as shape
 use Rattle.hh_tables.specs.Tables.{Table, put_all}
-use Rattle.hh_keyed_rows.specs.Codecs.{Codec, IsCodec, places_from}
+use Rattle.hh_keyed_rows.specs.Codecs.{Codec, IsCodec}
 use Rattle.hh_keyed_rows.specs.KeyedRows.{columns_of, stored_entry, table_in}
-use Rattle.hh_keyed_rows.specs.Laws.{Fits, HoldsTable, IsKeyOrder, IsKeyed, KeysToldApart, PutsReplace, PutsRows, RowsInAnyOrder, RowsReadBack}
+use Rattle.hh_keyed_rows.specs.Laws.{Fits, HoldsTable, IsKeyOrder, IsKeyed, PutsReplace, PutsRows, RowsInAnyOrder, RowsReadBack}
 use Rattle.hh_keyed_rows.specs.Puts.{PutsRow}
-use Rattle.hh_keyed_rows.proofs.CodecLaws.{entry_fits, entry_only, none_is_not_some, read_only, written_in}
+use Rattle.hh_keyed_rows.proofs.CodecLaws.{entry_fits, read_only, written_in}
 use Rattle.hh_keyed_rows.proofs.OrderLaws.{rows_permuted}
-use Rattle.hh_keyed_rows.proofs.PlaceLaws.{agree_same, agree_there}
 use Rattle.hh_keyed_rows.proofs.ReplaceLaws.{put_in_table, shaped_put}
 
 module _ {K V : Type 0} (key : Codec K) (value : Codec V) where
@@ -26,31 +22,6 @@ module _ {K V : Type 0} (key : Codec K) (value : Codec V) where
     λ e fits. written_in key value is_key is_value e.0 e.1 fits.0 fits.1,
     λ columns e is. (read_only key value is_key is_value columns e is, entry_fits key value is_key is_value columns e is),
   )
-
-  module _ (is_key : IsCodec key) (is_value : IsCodec value) where
-    -- the columns of a row with an entry
-    columns_in : (r : Row) (e : K × V) → stored_entry key value r ≡ Some e → drop 1 r ≡ columns_of key value e
-    columns_in [] e is = absurd (none_is_not_some is)
-    columns_in (id ∷ columns) e is = entry_only key value is_key is_value id columns e is
-
-    agree_apart : (r s : Row) (d e : K × V) → stored_entry key value r ≡ Some d → stored_entry key value s ≡ Some e
-        → agree plain (places_from 1 key.width) r (places_from 1 key.width) s ≡ true → d.0 ≡ e.0
-    agree_apart r s d e at bt agrees =
-        let long = is_key.wide d.0 in
-        is_key.apart d.0 e.0
-        (agree_same 1 (key.write d.0) (key.write e.0) r s (value.write d.1) (value.write e.1) (columns_in r d at) (columns_in s e bt)
-        (long ∙ sym (is_key.wide e.0)) (is_key.plain d.0) (is_key.plain e.0)
-        (subst (λ n. agree plain (places_from 1 n) r (places_from 1 n) s ≡ true) (sym long) agrees))
-
-    agree_alike : (r s : Row) (d e : K × V) → stored_entry key value r ≡ Some d → stored_entry key value s ≡ Some e → d.0 ≡ e.0
-        → agree plain (places_from 1 key.width) r (places_from 1 key.width) s ≡ true
-    agree_alike r s d e at bt same =
-        subst (λ n. agree plain (places_from 1 n) r (places_from 1 n) s ≡ true) (is_key.wide d.0)
-        (agree_there 1 (key.write d.0) r s (value.write d.1) (value.write e.1) (columns_in r d at)
-        (columns_in s e bt ∙ ap (λ k. key.write k ++ value.write e.1) (sym same)) (is_key.plain d.0))
-
-  pub told_apart : KeysToldApart key value
-  told_apart is_key is_value r s d e at bt = (agree_apart is_key is_value r s d e at bt, agree_alike is_key is_value r s d e at bt)
 
   pub in_any_order : RowsInAnyOrder key value
   in_any_order R order rows others same each = rows_permuted R order.0 order.1 (stored_entry key value) rows others same each

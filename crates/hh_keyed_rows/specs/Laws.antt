@@ -1,12 +1,11 @@
 -- What rows of a database say about a table, for any key and value that have columns.
-use Rattle.std.specs.Prelude.{◌≡◌, ◌↔◌, ℕ, List, [], ◌∷◌, Bool, true, None, Option, Some, filter, filter_map, ⊤}
+use Rattle.std.specs.Prelude.{◌≡◌, ℕ, List, [], ◌∷◌, Bool, true, None, Some, filter_map, ⊤}
 use Rattle.std.specs.List.{AllByRecursion, list_any}
 use Rattle.std.specs.List.Sorted.{IsPermutation}
 use Rattle.std.specs.Cmp.{IsTotalOrder}
 use Rattle.std.specs.declared.cmp.Ordering.{Ordering}
 use Rattle.std.specs.declared.cmp.Ordering.TheVariants.{Equal}
 use Rattle.std.specs.FinMap.{find, put}
-use Rattle.std.specs.Ordering.{is_eq}
 use Rattle.hh_num.specs.Quantities.{Measure}
 use Rattle.hh_tables.specs.Tables.{Table, put_all}
 use Rattle.sqlite_value.specs.Keys.{plain}
@@ -23,7 +22,7 @@ use Rattle.hh_keyed_rows.specs.Fields.{account_columns, counterparties_columns, 
 use Rattle.hh_keyed_rows.specs.KeyedRows.{columns_of, entry_in, stored_entry, table_in}
 use Rattle.hh_keyed_rows.specs.Keys.{contract_key_columns, credit_key_columns, file_key_columns, one_row_column, position_key_columns, posting_key_columns, reallocation_key_columns, result_key_columns, run_key_columns, unit_period_columns}
 use Rattle.hh_keyed_rows.specs.Puts.{PutsRow}
-use Rattle.hh_keyed_rows.specs.Values.{amounts_columns, file_columns, no_columns, party_columns, position_columns, reading_columns, reallocation_columns, settings_columns, summary_columns, unit_columns}
+use Rattle.hh_keyed_rows.specs.Values.{amounts_columns, file_columns, no_columns, party_columns, position_columns, reading_columns, reallocation_columns, settings_columns_of, summary_columns, unit_columns}
 
 -- ---- columns are codecs
 
@@ -59,7 +58,7 @@ pub record AreKeyCodecs : Type 0 where
 
 -- the columns of values
 pub record AreValueCodecs : Type 0 where
-  pub settings : IsCodec settings_columns
+  pub settings : (number : ℕ) → IsCodec (settings_columns_of number)
   pub ranges : IsCodec range_columns
   pub parties : IsCodec party_columns
   pub units : IsCodec unit_columns
@@ -90,11 +89,6 @@ module _ {K V : Type 0} (key : Codec K) (value : Codec V) where
       → ((e : K × V) → Fits e → entry_in key value (columns_of key value e) ≡ Some e)
       × ((columns : Row) (e : K × V) → entry_in key value columns ≡ Some e → (columns ≡ columns_of key value e) × Fits e)
 
-  -- two rows agree in the columns of the key exactly if they have the same key
-  abbrev pub KeysToldApart : Type 0
-  KeysToldApart = IsCodec key → IsCodec value → (r s : Row) (d e : K × V) → stored_entry key value r ≡ Some d → stored_entry key value s ≡ Some e
-      → (agree plain (places_from 1 key.width) r (places_from 1 key.width) s ≡ true) ↔ (d.0 ≡ e.0)
-
   -- a table and its indexes require that no two rows have the same key, and nothing else
   abbrev pub IsKeyed : Schema → schema.Table → Type 0
   IsKeyed as_schema table = (r new : Row)
@@ -105,15 +99,6 @@ module _ {K V : Type 0} (R : K → K → Ordering) where
   abbrev pub AreOfOneEach : List (K × V) → Type 0
   AreOfOneEach [] = ⊤
   AreOfOneEach (e ∷ es) = (find R e.0 es ≡ None) × AreOfOneEach es
-
--- the value of the first entry, if there is one
-abbrev pub first_value : {K V : Type 0} → List (K × V) → Option V
-first_value [] = None
-first_value (e ∷ es) = Some e.1
-
--- what is found under a key is the value of the first entry with that key
-abbrev pub GetsFind : Type 0 → Type 0 → Type 0
-GetsFind K V = (R : K → K → Ordering) (k : K) (table : Table K V) → find R k table ≡ first_value (filter (λ e. is_eq (R k e.0)) table)
 
 module _ {K V : Type 0} (key : Codec K) (value : Codec V) where
   -- If no two rows have the same key, rows represent the same table in any order.

@@ -91,11 +91,15 @@ no_columns = record { width = 0; fits = λ _. true; write = λ _. []; read = λ 
 abbrev pub version : ℕ
 version = 1
 
--- version, lead minutes, the operator's key
-abbrev pub settings_columns : Codec Settings
-settings_columns =
+-- the number of a version, lead minutes, the operator's key
+abbrev pub settings_columns_of : ℕ → Codec Settings
+settings_columns_of number =
     via (λ p. record { lead_minutes = p.1.0; operator_key = p.1.1 }) (λ s. (tt, (s.lead_minutes, s.operator_key)))
-    (both (only_number version) (both lead_minutes_column operator_key_column))
+    (both (only_number number) (both lead_minutes_column operator_key_column))
+
+-- those of the present version
+abbrev pub settings_columns : Codec Settings
+settings_columns = settings_columns_of version
 
 -- the amounts of an account's row
 abbrev pub amounts_of : AccountRow → AccountAmounts

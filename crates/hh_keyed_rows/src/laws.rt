@@ -1,6 +1,6 @@
 //! Laws about rows that represent tables. Each is the contract of a function that does nothing.
 
-ghost use Rattle.hh_keyed_rows.specs.Laws.{AreColumnCodecs, AreKeyCodecs, AreValueCodecs, GetsFind, KeysToldApart, PutsReplace, RowsInAnyOrder, RowsReadBack};
+ghost use Rattle.hh_keyed_rows.specs.Laws.{AreColumnCodecs, AreKeyCodecs, AreValueCodecs, PutsReplace, RowsInAnyOrder, RowsReadBack};
 
 use crate::columned::Columned;
 
@@ -25,11 +25,6 @@ pub fn rows_read_back<K: Columned, V: Columned>()
     ensures { RowsReadBack K.codec V.codec }
 {}
 
-/// Two rows agree in the columns of the key exactly if they have the same key.
-pub fn keys_told_apart<K: Columned, V: Columned>()
-    ensures { KeysToldApart K.codec V.codec }
-{}
-
 /// If no two rows have the same key, rows represent the same table in any order.
 pub fn rows_in_any_order<K: Columned, V: Columned>()
     ensures { RowsInAnyOrder K.codec V.codec }
@@ -39,10 +34,4 @@ pub fn rows_in_any_order<K: Columned, V: Columned>()
 /// other.
 pub fn puts_replace<K: Columned, V: Columned>()
     ensures { PutsReplace K.codec V.codec }
-{}
-
-/// What is found under a key is the value of the first entry with that key. So a query for the key tells
-/// it.
-pub fn gets_find<K: Columned, V: Columned>()
-    ensures { GetsFind K V }
 {}

@@ -30,8 +30,7 @@ pub use hh_store::{
     ResultKey, RunChange,
 };
 pub use laws::{
-    column_codecs, gets_find, key_codecs, keys_told_apart, puts_replace, rows_in_any_order,
-    rows_read_back, value_codecs,
+    column_codecs, key_codecs, puts_replace, rows_in_any_order, rows_read_back, value_codecs,
 };
 pub use no_columns::NoColumns;
 pub use one_row::OneRow;

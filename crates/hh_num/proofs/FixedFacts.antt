@@ -13,9 +13,6 @@ pub digits_value_after_ge : (n : ℕ) (ds : List ℕ) → n ≤ digits_value_aft
 digits_value_after_ge n [] = omega arith
 digits_value_after_ge n (d ∷ ds) = omega (arith, digits_value_after_ge (n * 10 + digit_value d) ds)
 
-digits_behind_past : (n : ℕ) (ds : List ℕ) → 2 ^ 64 ≤ n → kept_if fits_u64 (digits_behind n ds) ≡ None
-digits_behind_past n ds h = let k = digits_value_after_ge n ds in grind (arith, nat_tests)
-
 -- a digit that takes the number to 2 ^ 64 or more leaves no number to read
 pub digits_behind_large : (n i : ℕ) (ds : List ℕ) → i < length ds → 2 ^ 64 ≤ n * 10 + (get_or ds i 0 - 48) → kept_if fits_u64 (digits_behind n (drop i ds)) ≡ None
 digits_behind_large n i ds lt h =

@@ -1,1 +1,2 @@
-mod VersionLaws
+pub mod StateLaws
+pub mod VersionLaws

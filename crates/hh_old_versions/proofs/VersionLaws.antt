@@ -28,7 +28,7 @@ use Rattle.hh_rows.specs.declared.rows.Row.TheVariants as row
 use Rattle.hh_rows.specs.declared.rows.UnitRegistration.{UnitRegistration}
 use Rattle.hh_rows.specs.declared.rows.UnitRow.{UnitRow}
 use Rattle.hh_registrations.specs.declared.unit_change.FormerLead.TheVariants as former
-use Rattle.hh_registrations.specs.Registrations.{Lead, Leads, RegistrationsView, beside_former, former_lead, last_registration, registration_on, unless_ended, widened, with_unit}
+use Rattle.hh_registrations.specs.Registrations.{Lead, Leads, RegistrationsView, beside_former, former_lead, last_registration, registration_on, unless_ended, widened, with_unit_row}
 use Rattle.hh_registrations.proofs.KeyLaws.{at}
 use Rattle.hh_rules.specs.declared.timing.Timing.{Timing}
 use Rattle.hh_rules.specs.Entries.{unit_entry}
@@ -37,10 +37,10 @@ use Rattle.hh_rules.specs.Lateness.{Timetable, Accepted, accepted_at, comes_in_t
 use Rattle.hh_rules.specs.Refusals.{is_party_off, is_same_mark, is_some_that, is_unit_moved, is_unit_off, most_units, passes_hundred, registered_party, whole_standing}
 use Rattle.hh_rules.proofs.HistoryLaws.{entries_of-append}
 use Rattle.hh_successions.specs.RegistrationHistory.{IsAcceptedBy, no_rows, one_more, refusal_by, registered_with_units, registrations_in, registrations_with}
-use Rattle.hh_successions.specs.SuccessionRefusals.{is_moved, is_shrunk, is_subsidiary_put_first, is_to_lead_of, last_lead, lead_of, reallocation_refusals_by_leads, refusals_by_leads, unit_refusals_by_leads}
+use Rattle.hh_successions.specs.SuccessionRefusals.{is_shrunk, is_subsidiary_put_first, is_to_lead_of, is_unit_moved_by_leads, last_lead, lead_of, reallocation_refusals_by_leads, refusals_by_leads, unit_refusals_by_leads}
 use Rattle.hh_successions.proofs.LeadLaws.{IsKept, first_is, last_holds, last_known, lead_key, lead_term, with_registration}
 use Rattle.hh_successions.proofs.LookBackLaws.{AreKeptIn, NoneMet, accepted_kept, none_met, not_passed, row_by_row}
-use Rattle.hh_successions.proofs.RowFacts.{Widens, earlier_is, holds_parts}
+use Rattle.hh_successions.proofs.RowFacts.{earlier_is, holds_parts}
 use Rattle.hh_old_versions.specs.OldVersions.{HistoriesOfVersionOne, KeptByVersionOne, SameRefusals, is_lead_refusal, one_lead_each, reallocation_refusals_of_version_one, rule_of_version_one, unit_refusals_of_version_one}
 
 -- ---- one registration for each unit, as units are put
@@ -160,15 +160,11 @@ module _ (unit : List ℕ) (known new : UnitRegistration) (inside : is_inside kn
   same_mark : is_same_mark known.interconnector new.interconnector ≡ true
   same_mark = (and_parts _ _ both_same).1
 
-  -- it widens the one registration
-  pub one_widens : Widens known known.range.from new
-  one_widens = record { low = low; keeps = λ several. absurd (omega arith); high = high }
-
   -- it isn't refused here
   pub not_shrunk : is_shrunk known (lead_of unit known) new ≡ false
   not_shrunk = or_from _ _ (le-ltb new.range.to known.range.to high) (and_right (is_same_account known.lead new.lead) _ (le-ltb known.range.from new.range.from low))
 
-  pub not_moved : is_moved known (lead_of unit known) new ≡ false
+  pub not_moved : is_unit_moved_by_leads known (lead_of unit known) new ≡ false
   not_moved = or_from _ _ (ap not same_mark)
       (ap (λ b. cond b (nat_lt new.range.from known.range.from && nat_lt known.range.from known.range.from) (nat_le new.range.from known.range.from || nat_lt (known.range.to + 1) new.range.from)) same_lead
       ∙ and_right (nat_lt new.range.from known.range.from) _ (le-ltb known.range.from known.range.from (omega arith)))
@@ -255,14 +251,14 @@ module _ (timetable : Timetable) (history : History) (kept : AreKeptIn history) 
 
   -- if version 1's conditions of 39 and 40 aren't met, none of 39 to 41 is
   none_here : (o : Option UnitRegistration) → known_row ≡ o → is_some_that (λ u. not (is_inside u.range new_row.range)) o ≡ false → is_some_that (λ u. is_unit_moved u new_row) o ≡ false
-      → (is_some_that (λ u. is_shrunk u (last_lead leads r.unit u) new_row) o ≡ false) × (is_some_that (λ u. is_moved u (last_lead leads r.unit u) new_row) o ≡ false)
+      → (is_some_that (λ u. is_shrunk u (last_lead leads r.unit u) new_row) o ≡ false) × (is_some_that (λ u. is_unit_moved_by_leads u (last_lead leads r.unit u) new_row) o ≡ false)
       × (is_some_that (λ u. is_subsidiary_put_first tables leads r (last_lead leads r.unit u)) o ≡ false)
   none_here None is wide unmoved = (refl, refl, refl)
   none_here (Some u) is wide unmoved =
       let inside : is_inside u.range new_row.range ≡ true = not-false (is_inside u.range new_row.range) wide in
       let last : last_lead leads r.unit u ≡ lead_of r.unit u = ap (λ (o : Option Lead). unwrap_or o (lead_of r.unit u)) (last_one history kept one r.unit u is) in (
         ap (λ l. is_shrunk u l new_row) last ∙ not_shrunk r.unit u new_row inside unmoved,
-        ap (λ l. is_moved u l new_row) last ∙ not_moved r.unit u new_row inside unmoved,
+        ap (λ l. is_unit_moved_by_leads u l new_row) last ∙ not_moved r.unit u new_row inside unmoved,
         ap (λ l. is_subsidiary_put_first tables leads r l) last
             ∙ ap (λ b. not b && list_any (λ e. is_to_lead_of r e.0) tables.reallocations) (same_lead r.unit u new_row inside unmoved),
       )
@@ -273,7 +269,7 @@ module _ (timetable : Timetable) (history : History) (kept : AreKeptIn history) 
       by_first (is_none (registered_party (whole_standing tables) new_row.lead.party))
       (is_some_that (λ p. not (is_inside new_row.range p.range)) (registered_party (whole_standing tables) new_row.lead.party))
       (is_some_that (λ u. not (is_inside u.range new_row.range)) known_row) (is_some_that (λ u. is_unit_moved u new_row) known_row)
-      (is_some_that (λ u. is_shrunk u (last_lead leads r.unit u) new_row) known_row) (is_some_that (λ u. is_moved u (last_lead leads r.unit u) new_row) known_row)
+      (is_some_that (λ u. is_shrunk u (last_lead leads r.unit u) new_row) known_row) (is_some_that (λ u. is_unit_moved_by_leads u (last_lead leads r.unit u) new_row) known_row)
       (is_some_that (λ u. is_subsidiary_put_first tables leads r (last_lead leads r.unit u)) known_row)
       (first_met ((refusal.TooMany, is_none known_row && nat_le most_units (whole_standing tables).unit_count) ∷ []))
       (λ wide unmoved. none_here known_row refl wide unmoved) why is other
@@ -368,7 +364,7 @@ unit_row_of : (timetable : Timetable) (history : History) (moment : ℤ) (r : Un
 unit_row_of timetable history moment r kept one accepted =
     let known : Option UnitRegistration = find bytes_cmp r.unit (registrations_in history).units in
     let same : widened known r.registration ≡ r.registration = row_is timetable history kept one r accepted known refl in
-    let units : (with_unit r (registrations_in history)).units ≡ put bytes_cmp r.unit r.registration (registrations_in history).units = ap (λ u. put bytes_cmp r.unit u (registrations_in history).units) same in
+    let units : (with_unit_row r (registrations_in history)).units ≡ put bytes_cmp r.unit r.registration (registrations_in history).units = ap (λ u. put bytes_cmp r.unit u (registrations_in history).units) same in
     one_more_of history (accepted_at moment (row.Unit r))
     (units ∙ ap (put bytes_cmp r.unit r.registration) one.units ∙ sym (table_of_last-append bytes_total exact_bytes (entries_of unit_entry history) (r.unit, r.registration)))
     (is_sorted-put bytes_cmp bytes_total r.unit (widened known r.registration) (registrations_in history).units one.rising)

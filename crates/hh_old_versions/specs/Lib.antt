@@ -1,1 +1,3 @@
+pub mod OldVersionMachine
+pub mod OldVersionStates
 pub mod OldVersions

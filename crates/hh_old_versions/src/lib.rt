@@ -1,12 +1,16 @@
-//! What older versions of the office did otherwise, and that what they have accepted is accepted
-//! since.
+//! What older versions of the office did otherwise, and that each of their states goes on.
 //!
-//! Version 1 had one account that leads a unit for all its dates. What it accepted is a history
-//! that is accepted where a unit may change its lead account (`histories_of_version_one`), with
-//! one registration for each unit (`kept_by_version_one`). A row that it didn't refuse 39 or 40
-//! gets the same answer since (`same_refusals`).
+//! Version 1 had one account that leads a unit for all its dates, and the office still refuses as
+//! version 1 did (`office_is_of_version_one`). Each state of version 1 is also reached where a
+//! unit may change its lead account. There each request gets the answer of version 1, unless that
+//! was 39 or 40 (`version_one_goes_on`), and so does each row (`same_refusals`). Each history that
+//! version 1 accepted is accepted there (`histories_of_version_one`). It has one registration for
+//! each unit (`kept_by_version_one`).
 #![tactic(auto)]
 
 mod laws;
 
-pub use laws::{histories_of_version_one, kept_by_version_one, same_refusals};
+pub use laws::{
+    histories_of_version_one, kept_by_version_one, office_is_of_version_one, same_refusals,
+    version_one_goes_on,
+};

@@ -25,7 +25,7 @@ use Rattle.hh_rows.proofs.KeyLaws.{exact_lead_keys, lead_key_total}
 use Rattle.hh_registrations.specs.declared.unit_change.FormerLead.{FormerLead}
 use Rattle.hh_registrations.specs.declared.unit_change.FormerLead.TheVariants as former
 use Rattle.hh_registrations.specs.declared.unit_change.UnitChange.{UnitChange}
-use Rattle.hh_registrations.specs.Registrations.{Lead, Leads, RegistrationsView, beside_former, former_lead, is_begun, is_of, is_succession, last_begun, last_registration, leads_with, unit_change, widened}
+use Rattle.hh_registrations.specs.Registrations.{Lead, Leads, RegistrationsView, beside_former, former_lead, is_begun, is_of_unit, is_succession, last_begun, last_registration, leads_with, unit_change, widened}
 use Rattle.hh_registrations.specs.steps.Dates.{BeginByLastDate}
 
 -- ---- a registration put before another is taken out
@@ -121,17 +121,17 @@ pub dated_with : (registered : RegistrationsView) (r : UnitRow) → r.registrati
 dated_with registered r own all =
     dated_put (unit_change registered r).key (unit_change registered r).term _ own
     (dated_beside registered.leads all (last_registration registered.leads r.unit)
-    (λ e is. dated_last _ (dated_filter (λ x. is_of r.unit x.0) registered.leads all) e is) r.registration)
+    (λ e is. dated_last _ (dated_filter (λ x. is_of_unit r.unit x.0) registered.leads all) e is) r.registration)
 
 -- so each has begun on that date
 pub last_is_begun : (leads : Leads) (unit : List ℕ) → BeginByLastDate leads → last_begun leads unit last_date ≡ last_registration leads unit
 last_is_begun leads unit all = ap last_of (alike leads all)
   where
-    alike : (es : Leads) → BeginByLastDate es → filter (λ e. is_begun unit last_date e.0) es ≡ filter (λ e. is_of unit e.0) es
+    alike : (es : Leads) → BeginByLastDate es → filter (λ e. is_begun unit last_date e.0) es ≡ filter (λ e. is_of_unit unit e.0) es
     alike [] all = refl
     alike (e ∷ es) all =
-        ap (λ b. cond (is_of unit e.0 && b) (e ∷ filter (λ x. is_begun unit last_date x.0) es) (filter (λ x. is_begun unit last_date x.0) es)) (le-leb e.0.from last_date all.0)
-        ∙ elim (is_of unit e.0) as (λ b. cond (b && true) (e ∷ filter (λ x. is_begun unit last_date x.0) es) (filter (λ x. is_begun unit last_date x.0) es) ≡ cond b (e ∷ filter (λ x. is_of unit x.0) es) (filter (λ x. is_of unit x.0) es)) [
+        ap (λ b. cond (is_of_unit unit e.0 && b) (e ∷ filter (λ x. is_begun unit last_date x.0) es) (filter (λ x. is_begun unit last_date x.0) es)) (le-leb e.0.from last_date all.0)
+        ∙ elim (is_of_unit unit e.0) as (λ b. cond (b && true) (e ∷ filter (λ x. is_begun unit last_date x.0) es) (filter (λ x. is_begun unit last_date x.0) es) ≡ cond b (e ∷ filter (λ x. is_of_unit unit x.0) es) (filter (λ x. is_of_unit unit x.0) es)) [
           | true ↦ ap (λ xs. e ∷ xs) (alike es all.1)
           | false ↦ alike es all.1
         ]

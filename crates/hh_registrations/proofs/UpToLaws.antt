@@ -24,7 +24,7 @@ use Rattle.hh_names.proofs.AccountLaws.{bytes_total}
 use Rattle.hh_rows.specs.Keys.{lead_key_cmp}
 use Rattle.hh_rows.specs.declared.keys.LeadKey.{LeadKey}
 use Rattle.hh_rows.proofs.KeyLaws.{lead_key_total}
-use Rattle.hh_registrations.specs.Registrations.{Lead, Leads, is_begun, is_of, last_begun}
+use Rattle.hh_registrations.specs.Registrations.{Lead, Leads, is_begun, is_of_unit, last_begun}
 use Rattle.hh_registrations.proofs.KeyLaws.{at}
 
 -- equal ids are those of which neither comes first
@@ -98,13 +98,13 @@ module _ (unit : List ℕ) (date : ℕ) where
 
   begun_up_to : (e : Lead) → is_begun_then e ≡ true → is_up_to e ≡ true
   begun_up_to e begun =
-      let parts = and_parts (is_of unit e.0) (nat_le e.0.from date) begun in
+      let parts = and_parts (is_of_unit unit e.0) (nat_le e.0.from date) begun in
       of_tied (bytes_cmp e.0.unit unit) (nat_cmp e.0.from date) parts.0 ∙ le_alike e.0.from date ∙ parts.1
 
   -- of those up to it the begun ones are the unit's
-  begun_is_of : (e : Lead) → is_up_to e ≡ true → is_begun_then e ≡ is_of unit e.0
+  begun_is_of : (e : Lead) → is_up_to e ≡ true → is_begun_then e ≡ is_of_unit unit e.0
   begun_is_of e up_to =
-      elim (is_of unit e.0) as (λ b. is_of unit e.0 ≡ b → (b && nat_le e.0.from date) ≡ b) [
+      elim (is_of_unit unit e.0) as (λ b. is_of_unit unit e.0 ≡ b → (b && nat_le e.0.from date) ≡ b) [
         | true ↦ λ own. sym (le_alike e.0.from date) ∙ sym (of_tied (bytes_cmp e.0.unit unit) (nat_cmp e.0.from date) own) ∙ up_to
         | false ↦ λ other. refl
       ] refl
@@ -112,7 +112,7 @@ module _ (unit : List ℕ) (date : ℕ) where
   -- the last of them, if it is of the unit
   abbrev pub kept_of_unit : Option Lead → Option Lead
   kept_of_unit None = None
-  kept_of_unit (Some e) = cond (is_of unit e.0) (Some e) None
+  kept_of_unit (Some e) = cond (is_of_unit unit e.0) (Some e) None
 
   none_above : (k : LeadKey) (es : Leads) → is_le (lead_key_cmp k (at unit date)) ≡ false → T (below_all lead_key_cmp k es) → filter is_up_to es ≡ []
   none_above k [] high below = refl
@@ -136,7 +136,7 @@ module _ (unit : List ℕ) (date : ℕ) where
       by_cases own further (inr later) = further later
 
   -- what stands between two registrations of the unit is one
-  between : (e z : Lead) → is_of unit e.0 ≡ true → lead_key_cmp e.0 z.0 ≡ Less → is_up_to z ≡ true → is_of unit z.0 ≡ false → ⊥
+  between : (e z : Lead) → is_of_unit unit e.0 ≡ true → lead_key_cmp e.0 z.0 ≡ Less → is_up_to z ≡ true → is_of_unit unit z.0 ≡ false → ⊥
   between e z own below up_to other =
       let low : is_lt (bytes_cmp z.0.unit unit) ≡ true = not_above_first (bytes_cmp z.0.unit unit) (nat_cmp z.0.from date) up_to other in
       let high : is_lt (bytes_cmp z.0.unit e.0.unit) ≡ false = ap is_lt (bytes_total.antisymm z.0.unit e.0.unit) ∙ not_greater (bytes_cmp e.0.unit z.0.unit) (nat_cmp e.0.from z.0.from) below in
@@ -158,7 +158,7 @@ module _ (unit : List ℕ) (date : ℕ) where
               | [] ↦ λ alone rest.
                   ap (λ xs. last_of (cond (is_begun_then e) (e ∷ xs) xs)) (none_of_fewer is_begun_then is_up_to begun_up_to es alone)
                   ∙ ap (λ c. last_of (cond c (e ∷ []) [])) (begun_is_of e up_to)
-                  ∙ elim (is_of unit e.0) as (λ c. last_of (cond c (e ∷ []) []) ≡ cond c (Some e) None) [ true ↦ refl | false ↦ refl ]
+                  ∙ elim (is_of_unit unit e.0) as (λ c. last_of (cond c (e ∷ []) []) ≡ cond c (Some e) None) [ true ↦ refl | false ↦ refl ]
               | (y ∷ ys) ↦ λ is rest.
                   elim (last_of (y ∷ ys)) as (λ o. last_of (y ∷ ys) ≡ o → last_of others ≡ kept_of_unit o → last_of (cond (is_begun_then e) (e ∷ others) others) ≡ kept_of_unit o) [
                     | None ↦ λ none rest. absurd (some_last y ys none)
@@ -172,9 +172,9 @@ module _ (unit : List ℕ) (date : ℕ) where
       with_later e es below z last rest =
           elim (is_begun_then e) as (λ c. is_begun_then e ≡ c → last_of (cond c (e ∷ filter is_begun_then es) (filter is_begun_then es)) ≡ kept_of_unit (Some z)) [
             | false ↦ λ off. rest
-            | true ↦ λ begun. elim (is_of unit z.0) as (λ c. is_of unit z.0 ≡ c → last_of (filter is_begun_then es) ≡ cond c (Some z) None → last_of (e ∷ filter is_begun_then es) ≡ cond c (Some z) None) [
+            | true ↦ λ begun. elim (is_of_unit unit z.0) as (λ c. is_of_unit unit z.0 ≡ c → last_of (filter is_begun_then es) ≡ cond c (Some z) None → last_of (e ∷ filter is_begun_then es) ≡ cond c (Some z) None) [
               | true ↦ λ own rest. last_of-cons e (filter is_begun_then es) z rest
-              | false ↦ λ other rest. absurd (between e z (and_parts (is_of unit e.0) (nat_le e.0.from date) begun).0 (last_above e.0 es z below last) (last_passes is_up_to es z last) other)
+              | false ↦ λ other rest. absurd (between e z (and_parts (is_of_unit unit e.0) (nat_le e.0.from date) begun).0 (last_above e.0 es z below last) (last_passes is_up_to es z last) other)
             ] refl rest
           ] refl
 

@@ -36,12 +36,12 @@ no_registrations = record { units = []; leads = [] }
 -- ---- who leads a unit on a date
 
 -- the registration is one of this unit
-abbrev pub is_of : List ℕ → LeadKey → Bool
-is_of unit key = eq_by_cmp bytes_cmp key.unit unit
+abbrev pub is_of_unit : List ℕ → LeadKey → Bool
+is_of_unit unit key = eq_by_cmp bytes_cmp key.unit unit
 
 -- the registration is one of this unit, and begins on the date or before
 abbrev pub is_begun : List ℕ → ℕ → LeadKey → Bool
-is_begun unit date key = is_of unit key && nat_le key.from date
+is_begun unit date key = is_of_unit unit key && nat_le key.from date
 
 -- a registration, unless it has ended before a date
 abbrev pub unless_ended : ℕ → Option Lead → Option Lead
@@ -51,7 +51,7 @@ unless_ended date (Some lead) = if nat_le date lead.1.to then Some lead else Non
 module _ (leads : Leads) (unit : List ℕ) where
   -- the registrations of a unit
   abbrev pub registrations_of : Leads
-  registrations_of = filter (λ e. is_of unit e.0) leads
+  registrations_of = filter (λ e. is_of_unit unit e.0) leads
 
   -- the last of them
   abbrev pub last_registration : Option Lead
@@ -111,8 +111,8 @@ abbrev pub leads_with : UnitChange → Leads → Leads
 leads_with change leads = put lead_key_cmp change.key change.term (beside_former change.former leads)
 
 -- what is registered of units after a row of units
-abbrev pub with_unit : UnitRow → RegistrationsView → RegistrationsView
-with_unit r registered =
+abbrev pub with_unit_row : UnitRow → RegistrationsView → RegistrationsView
+with_unit_row r registered =
     let change = unit_change registered r in
     record {
       units = put bytes_cmp r.unit change.registration registered.units;

@@ -6,7 +6,7 @@ ghost use Rattle.hh_names.specs.Accounts.{bytes_cmp};
 ghost use Rattle.hh_tables.specs.Tables.{IsTable};
 ghost use Rattle.hh_time.specs.Days.{last_date};
 ghost use Rattle.hh_rows.specs.Keys.{lead_key_cmp};
-ghost use Rattle.hh_registrations.specs.Registrations.{last_begun, leads_with, no_registrations, registered_lead_on, unit_change, with_unit};
+ghost use Rattle.hh_registrations.specs.Registrations.{last_begun, leads_with, no_registrations, registered_lead_on, unit_change, with_unit_row};
 
 use crate::unit_change::{FormerLead, UnitChange, former_lead, widened};
 use hh_names::{Account, UnitId};
@@ -91,7 +91,7 @@ impl Registrations {
     /// Makes the change of a row of units (profile). `Err` only if memory is refused: all is then as it
     /// was.
     pub fn put(&mut self, row: UnitRow) -> Result<(), AllocError>
-        ensures ok { OnOk result (self.new ≡ with_unit row self.old) }
+        ensures ok { OnOk result (self.new ≡ with_unit_row row self.old) }
         ensures err { OnErr result (self.new ≡ self.old) }
     {
         let change = self.change_of(&row);

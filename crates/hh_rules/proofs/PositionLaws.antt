@@ -1,47 +1,27 @@
--- A contract row that replaces another changes only the positions of its seller and its buyer.
-use Rattle.std.proofs.Common.{◌≡◌, Bool, true, false, cond, refl, sym, ap, ◌∙◌, arith, FitsSigned, to_z, of_z}
-use Rattle.std.specs.Prelude.{◌≢◌, ℤ, pos, neg_ℤ, ◌-ℤ◌, Option, Some, unwrap_or}
-use Rattle.std.specs.Cmp.{IsTotalOrder, Equal-is, eq_by_cmp_equiv, on_total, then_total}
+-- The keys of positions, and what a contract row that replaces another moves.
+use Rattle.std.proofs.Common.{◌≡◌, Bool, true, false, cond, refl, ap, ◌∙◌, arith, FitsSigned, to_z, of_z}
+use Rattle.std.specs.Prelude.{ℤ, pos, neg_ℤ, ◌-ℤ◌, Option, Some, unwrap_or}
+use Rattle.std.specs.Cmp.{IsTotalOrder, on_total, then_total}
 use Rattle.std.specs.FinMap.{find, put}
 use Rattle.std.specs.FinMap.Entries.{find-put}
 use Rattle.std.specs.Ordering.{eq_by_cmp}
 use Rattle.std.specs.Int.{w64}
 use Rattle.std.proofs.lemmas.Int.{ints, to_z-of_z}
-use Rattle.std.proofs.lemmas.Map.Lookups.{CmpEqualImpliesEq, exact_pairs}
 use Rattle.hh_tables.specs.Tables.{Table}
-use Rattle.hh_names.specs.declared.account.Account.{Account}
-use Rattle.hh_names.specs.Accounts.{account_cmp}
-use Rattle.hh_names.proofs.AccountLaws.{account_total, exact_accounts}
-use Rattle.hh_rows.specs.Keys.{settlement_period_cmp}
+use Rattle.hh_names.proofs.AccountLaws.{account_total}
 use Rattle.hh_rows.specs.declared.rows.ContractRow.{ContractRow}
-use Rattle.hh_rows.specs.declared.settlement_period.SettlementPeriod.{SettlementPeriod}
 use Rattle.hh_rows.specs.Ranges.{IsBetween}
-use Rattle.hh_rows.proofs.KeyLaws.{exact_settlement_periods, settlement_period_total}
-use Rattle.hh_rules.specs.PositionLaws.{LostStaysLost, MovesBothAccounts, MovesNoOther, buyer_key, seller_key}
-use Rattle.hh_rules.specs.Positions.{with_moved, position_in, position_key_cmp, position_plus, volume_of, with_replaced}
+use Rattle.hh_rows.proofs.KeyLaws.{settlement_period_total}
+use Rattle.hh_rules.specs.Positions.{with_moved, position_in, position_key, position_key_cmp, position_plus, volume_of, with_replaced}
 use Rattle.hh_rules.specs.declared.positions.Position.{Position}
-use Rattle.hh_rules.specs.declared.positions.Position.TheVariants.{Known, Lost}
+use Rattle.hh_rules.specs.declared.positions.Position.TheVariants.{Known}
 use Rattle.hh_rules.specs.declared.positions.PositionKey.{PositionKey}
 
 pub position_key_total : IsTotalOrder position_key_cmp
 position_key_total = then_total (on_total (λ k. k.at) settlement_period_total) (on_total (λ k. k.account) account_total)
 
-pub exact_position_keys : CmpEqualImpliesEq position_key_cmp
-exact_position_keys a b h =
-    ap (λ (p : SettlementPeriod × Account). record { at = p.0; account = p.1 })
-    (exact_pairs settlement_period_cmp account_cmp exact_settlement_periods exact_accounts (a.at, a.account) (b.at, b.account) h)
-
 abbrev is_same : PositionKey → PositionKey → Bool
 is_same = eq_by_cmp position_key_cmp
-
-same_keys : (q k : PositionKey) → is_same q k ≡ true → q ≡ k
-same_keys q k same = exact_position_keys q k ((Equal-is (position_key_cmp q k)).0 same)
-
-other_keys : (q k : PositionKey) → q ≢ k → is_same q k ≡ false
-other_keys q k apart = elim (is_same q k) as (λ b. is_same q k ≡ b → b ≡ false) [
-  | true ↦ λ same. absurd (apart (same_keys q k same))
-  | false ↦ λ same. refl
-] refl
 
 unwrap_either : (b : Bool) (p q : Position) (o : Option Position) → unwrap_or (cond b (Some p) o) q ≡ cond b p (unwrap_or o q)
 unwrap_either true p q o = refl
@@ -54,48 +34,12 @@ module _ (positions : Table PositionKey Position) where
       ap (λ o. unwrap_or o (Known (pos 0))) (find-put position_key_cmp position_key_total q k p positions)
       ∙ unwrap_either (is_same q k) p (Known (pos 0)) (find position_key_cmp q positions)
 
-  found_beside : (k q : PositionKey) (p : Position) → q ≢ k → find position_key_cmp q (put position_key_cmp k p positions) ≡ find position_key_cmp q positions
-  found_beside k q p apart =
-      find-put position_key_cmp position_key_total q k p positions ∙ ap (λ b. cond b (Some p) (find position_key_cmp q positions)) (other_keys q k apart)
+-- the keys of the positions of a row's seller and of its buyer
+abbrev seller_key : ContractRow → PositionKey
+seller_key row = position_key row row.contract.counterparties.seller
 
-  here : (k : PositionKey) (p : Position) → position_in (put position_key_cmp k p positions) k ≡ p
-  here k p = in_put k k p ∙ ap (λ b. cond b p (position_in positions k)) ((eq_by_cmp_equiv position_key_total).refl k)
-
-  beside : (k q : PositionKey) (p : Position) → q ≢ k → position_in (put position_key_cmp k p positions) q ≡ position_in positions q
-  beside k q p apart = ap (λ o. unwrap_or o (Known (pos 0))) (found_beside k q p apart)
-
-  -- a lost position stays lost when a volume is added
-  stays_lost : (k q : PositionKey) (volume : ℤ) → position_in positions q ≡ Lost → position_in (with_moved k volume positions) q ≡ Lost
-  stays_lost k q volume lost =
-      in_put k q (position_plus volume (position_in positions k))
-      ∙ elim (is_same q k) as (λ b. is_same q k ≡ b → cond b (position_plus volume (position_in positions k)) (position_in positions q) ≡ Lost) [
-        | true ↦ λ same. ap (λ x. position_plus volume (position_in positions x)) (sym (same_keys q k same)) ∙ ap (position_plus volume) lost
-        | false ↦ λ same. lost
-      ] refl
-
-pub moves_no_other : MovesNoOther
-moves_no_other old new positions key apart beyond =
-    let more : ℤ = new.contract.volume -ℤ volume_of old in
-    let sold : Table PositionKey Position = with_moved (seller_key new) more positions in
-    found_beside sold (buyer_key new) key (position_plus (pos 0 -ℤ more) (position_in sold (buyer_key new))) beyond
-    ∙ found_beside positions (seller_key new) key (position_plus more (position_in positions (seller_key new))) apart
-
-pub moves_both_accounts : MovesBothAccounts
-moves_both_accounts old new positions apart =
-    let more : ℤ = new.contract.volume -ℤ volume_of old in
-    let gained : Position = position_plus more (position_in positions (seller_key new)) in
-    let sold : Table PositionKey Position = put position_key_cmp (seller_key new) gained positions in
-    let given : Position = position_plus (pos 0 -ℤ more) (position_in sold (buyer_key new)) in
-    let less : pos 0 -ℤ more ≡ volume_of old -ℤ new.contract.volume = omega (arith, ints) in (
-      beside sold (buyer_key new) (seller_key new) given (λ e. apart (ap (λ k. k.account) e)) ∙ here positions (seller_key new) gained,
-      here sold (buyer_key new) given
-          ∙ (λ i. position_plus (less i) (beside positions (seller_key new) (buyer_key new) gained (λ e. apart (ap (λ k. k.account) (sym e))) i)),
-    )
-
-pub lost_stays_lost : LostStaysLost
-lost_stays_lost old new positions key lost =
-    let more : ℤ = new.contract.volume -ℤ volume_of old in
-    stays_lost (with_moved (seller_key new) more positions) (buyer_key new) key (pos 0 -ℤ more) (stays_lost positions (seller_key new) key more lost)
+abbrev buyer_key : ContractRow → PositionKey
+buyer_key row = position_key row row.contract.counterparties.buyer
 
 -- a number that fits a 64-bit word
 abbrev word : ℤ → ℤ

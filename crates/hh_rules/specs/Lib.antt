@@ -5,11 +5,11 @@ pub mod History
 pub mod Lateness
 pub mod Leads
 pub mod Percents
-pub mod PositionLaws
 pub mod Positions
 pub mod Refusals
 pub mod RegisterView
 pub mod steps
+pub use Rattle.hh_tables.specs.Ends
 pub use Rattle.hh_tables.specs.Tables
 pub use Rattle.hh_names.specs.declared.account
 pub use Rattle.hh_names.specs.declared.fault

@@ -8,7 +8,7 @@
 //! and `Register::apply_row` judge one row: a refusal has the least number that applies, and leaves
 //! the register as it was. A late row (`is_in_time`) changes nothing in force (`registered_in`),
 //! but the first row of a reference, late or not, fixes its seller and buyer. `Positions::replace`
-//! moves the contract positions of a row's seller and buyer, and no others (`positions_by_keys`).
+//! moves the contract positions of a row's seller and buyer, and no others (`with_replaced`).
 #![tactic(auto)]
 
 mod file_rows;
@@ -22,15 +22,13 @@ mod timing;
 
 pub use file_rows::FileRows;
 pub use hh_names::{
-    AccessKey, Account, Contract, Counterparties, Fault, FileName, OperatorKey, PartyId,
-    PeriodNumber, Reading, Reallocation, Reference, Refusal, Side, UnitId, read_yes_no,
+    Account, Counterparties, Fault, FileName, PartyId, PeriodNumber, Reference, Refusal, UnitId,
 };
 pub use hh_rows::{
-    ContractKey, ContractRow, DateRange, FileBody, FileKind, LeadMinutes, MeterRow,
-    PartyRegistration, PartyRow, PriceRow, ReallocationKey, ReallocationRow, Row, Settings,
-    SettlementPeriod, UnitPeriod, UnitRegistration, UnitRow,
+    ContractRow, FileBody, FileKind, PartyRegistration, Row, Settings, SettlementPeriod,
+    UnitPeriod, UnitRegistration,
 };
-pub use positions::{Position, PositionKey, Positions, positions_by_keys};
+pub use positions::{Position, PositionKey, Positions};
 pub use register::Register;
 pub use row_done::RowDone;
 pub use timing::Timing;

@@ -3,7 +3,6 @@
 ghost use Rattle.std.specs.Prelude.{◌≡◌, pos, neg_ℤ, [], option_copied, IfOk, IfSome, OnOk, OnErr};
 ghost use Rattle.std.specs.FinMap.{put};
 ghost use Rattle.hh_rows.specs.Ranges.{IsBetween};
-ghost use Rattle.hh_rules.specs.PositionLaws.{KnownUntilTooLarge, LostStaysLost, MovesBothAccounts, MovesNoOther};
 ghost use Rattle.hh_rules.specs.Positions.{position_in, position_key, position_key_cmp, position_plus, volume_of, with_replaced, TakesPlaceOf};
 ghost use Rattle.hh_rules.specs.steps.Positions.{IsMove};
 
@@ -158,12 +157,3 @@ fn key_of(row: &ContractRow, account: Account) -> PositionKey
         account,
     }
 }
-
-/// A contract row that replaces another moves the positions of its seller and its buyer, and no other. A
-/// known position is lost exactly if its sum passes 100,000,000 MWh in size. A lost position stays lost.
-pub fn positions_by_keys()
-    ensures others { MovesNoOther }
-    ensures both { MovesBothAccounts }
-    ensures known { KnownUntilTooLarge }
-    ensures lost { LostStaysLost }
-{}

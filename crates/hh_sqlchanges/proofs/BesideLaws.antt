@@ -26,10 +26,11 @@ use Rattle.hh_beside.proofs.AgreeLaws.{among_both, same_with_more}
 use Rattle.hh_beside.proofs.RisingLaws.{filter-map}
 use Rattle.hh_sqlrows.specs.no_columns.NoColumns.{NoColumns}
 use Rattle.hh_sqlrows.specs.Contents.{beside_in}
-use Rattle.hh_sqlrows.specs.Forms.{Puts, PutsAll, Removes, rows_under_keys}
+use Rattle.hh_sqlrows.specs.Forms.{PutsAll, rows_under_keys}
+use Rattle.hh_sqlrows.specs.steps.Forms.{Puts, Removes}
 use Rattle.hh_sqlrows.specs.OfficeTables as forms
 use Rattle.hh_sqlchanges.specs.Writes.{ChangesByLoad, ChangesByRun, WritesBesideAnew}
-use Rattle.hh_sqlchanges.specs.steps.Becoming.{Becomes, StoresRunAlone, WritesBeside}
+use Rattle.hh_sqlchanges.specs.steps.Becoming.{Becomes, StoresRunAlone, WritesBeside, touched_entry}
 use Rattle.hh_sqlchanges.proofs.StayLaws.{content_kept, positions_kept, settings_kept, stays_office, stays_then, touched_kept}
 
 -- ---- touched Settlement Periods that are put into a table
@@ -60,7 +61,7 @@ among_put at p (e ∷ es) =
     ] refl
 
 among_put_all : (ps : List SettlementPeriod) (es : Table SettlementPeriod NoColumns) (at : SettlementPeriod)
-    → is_among (map (λ e. e.0) (put_all settlement_period_cmp (map forms.touched_entry ps) es)) at ≡ is_among (ps ++ map (λ e. e.0) es) at
+    → is_among (map (λ e. e.0) (put_all settlement_period_cmp (map touched_entry ps) es)) at ≡ is_among (ps ++ map (λ e. e.0) es) at
 among_put_all [] es at = refl
 among_put_all (p ∷ ps) es at =
     let there : List SettlementPeriod = map (λ e. e.0) es in
@@ -74,17 +75,17 @@ among_put_all (p ∷ ps) es at =
 -- ---- beside a load
 
 beside_put : (changed : List (PositionKey × Position)) (periods : List SettlementPeriod) (old mid new : Database) → PutsAll forms.positions changed old mid
-    → PutsAll forms.touched (map forms.touched_entry periods) mid new → WritesBeside changed periods old new
+    → PutsAll forms.touched (map touched_entry periods) mid new → WritesBeside changed periods old new
 beside_put changed periods old mid new first second = record {
   stays = stays_then old mid new (stays_office 26 old mid first.is_office first.others (omega arith) (omega arith)) (stays_office 28 mid new second.is_office second.others (omega arith) (omega arith));
   content = λ kept. content_kept 28 mid.trees new.trees second.others (omega arith) kept ∙ content_kept 26 old.trees mid.trees first.others (omega arith) kept;
   positions = positions_kept 28 mid.trees new.trees second.others (λ e. omega (arith, e)) ∙ first.rows;
-  touched = λ at. ap (λ es. is_among (map (λ e. e.0) es) at) (second.rows ∙ ap (put_all settlement_period_cmp (map forms.touched_entry periods)) (touched_kept 26 old.trees mid.trees first.others (λ e. omega (arith, e))))
+  touched = λ at. ap (λ es. is_among (map (λ e. e.0) es) at) (second.rows ∙ ap (put_all settlement_period_cmp (map touched_entry periods)) (touched_kept 26 old.trees mid.trees first.others (λ e. omega (arith, e))))
       ∙ among_put_all periods _ at;
 }
 
 pub beside_made : {X E : Type 0} (changed : List (PositionKey × Position)) (periods : List SettlementPeriod) (old mid new : Database) (result : Result X E)
-    → PutsAll forms.positions changed old mid → OnOk result (PutsAll forms.touched (map forms.touched_entry periods) mid new) → OnOk result (WritesBeside changed periods old new)
+    → PutsAll forms.positions changed old mid → OnOk result (PutsAll forms.touched (map touched_entry periods) mid new) → OnOk result (WritesBeside changed periods old new)
 beside_made changed periods old mid new result first = on_ok_weaker result (beside_put changed periods old mid new first)
 
 -- ---- beside a content for which nothing was kept

@@ -11,7 +11,8 @@ use Rattle.hh_rules.specs.Entries.{contract_entry, meter_entry}
 use Rattle.hh_rules.specs.History.{Registered}
 use Rattle.hh_states.specs.Changes.{put_row, put_rows}
 use Rattle.hh_sqlrows.specs.Contents.{registered_of}
-use Rattle.hh_sqlrows.specs.Forms.{PutsAll, PutsAllOrLeaves}
+use Rattle.hh_sqlrows.specs.Forms.{PutsAll}
+use Rattle.hh_sqlrows.specs.steps.Forms.{PutsAllOrLeaves}
 use Rattle.hh_sqlrows.specs.Office.{IsOffice}
 use Rattle.hh_sqlrows.specs.OfficeTables as forms
 use Rattle.hh_sqlchanges.specs.steps.Becoming.{Becomes, BecomesOrLeaves}

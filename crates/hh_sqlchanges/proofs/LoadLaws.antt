@@ -20,7 +20,8 @@ use Rattle.hh_states.specs.Changes.{LoadChangeView, effect_of_load, put_row, put
 use Rattle.hh_states.specs.Content.{Content}
 use Rattle.hh_states.specs.States.{KeptFileView, file_key_cmp}
 use Rattle.hh_sqlrows.specs.Contents.{result_of}
-use Rattle.hh_sqlrows.specs.Forms.{Puts, PutsAll}
+use Rattle.hh_sqlrows.specs.Forms.{PutsAll}
+use Rattle.hh_sqlrows.specs.steps.Forms.{Puts}
 use Rattle.hh_sqlrows.specs.OfficeTables as forms
 use Rattle.hh_sqlchanges.specs.steps.Becoming.{Becomes}
 use Rattle.hh_sqlchanges.specs.steps.FileRows.{with_file_row, with_file_rows}

@@ -21,7 +21,8 @@ use Rattle.hh_states.proofs.KeyLaws.{exact_result_keys}
 use Rattle.hh_sqlrows.specs.amounts.AccountAmounts.{AccountAmounts}
 use Rattle.hh_sqlrows.specs.Values.{account_row_of, amounts_of}
 use Rattle.hh_sqlrows.specs.Contents.{result_of}
-use Rattle.hh_sqlrows.specs.Forms.{Puts, PutsAll}
+use Rattle.hh_sqlrows.specs.Forms.{PutsAll}
+use Rattle.hh_sqlrows.specs.steps.Forms.{Puts}
 use Rattle.hh_sqlrows.specs.OfficeTables as forms
 use Rattle.hh_sqlchanges.specs.OwnAccounts.{AreOfTheirAccounts}
 use Rattle.hh_sqlchanges.specs.steps.Becoming.{Becomes, StoresRunAlone}

@@ -6,7 +6,8 @@ use Rattle.hh_rules.specs.History.{Registered}
 use Rattle.hh_states.specs.Content.{Content}
 use Rattle.hh_rows.specs.declared.settings.Settings.{Settings}
 use Rattle.hh_sqlrows.specs.Contents.{beside_in, content_of, registered_of, result_of}
-use Rattle.hh_sqlrows.specs.Forms.{TableForm, KeepsOthers, rows_under_keys}
+use Rattle.hh_sqlrows.specs.Forms.{TableForm, rows_under_keys}
+use Rattle.hh_sqlrows.specs.steps.Forms.{KeepsOthers}
 use Rattle.hh_sqlrows.specs.Office.{IsOffice}
 use Rattle.hh_sqlrows.specs.OfficeTables as forms
 use Rattle.hh_sqlrows.specs.KeyedRows.{stored_entry, table_in}

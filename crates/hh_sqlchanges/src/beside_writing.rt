@@ -1,15 +1,18 @@
 //! Writing what is kept beside the content.
 
-ghost use Rattle.std.specs.Prelude.{◌≡◌, OnOk};
+ghost use Rattle.std.specs.Prelude.{◌≡◌, map, OnOk};
 ghost use Rattle.sqlite.specs.Held.{state};
+ghost use Rattle.hh_sqlrows.specs.Forms.{PutsAll};
 ghost use Rattle.hh_sqlrows.specs.Office.{IsOffice};
-ghost use Rattle.hh_sqlrows.specs.Statements.{CommitsNothing, Inside, KeepsCommit, StaysInside};
+ghost use Rattle.hh_sqlrows.specs.OfficeTables as tables;
+ghost use Rattle.hh_sqlrows.specs.Reads.{Inside, WritesInside};
 ghost use Rattle.hh_sqlchanges.specs.Writes.{WritesBesideAnew};
-ghost use Rattle.hh_sqlchanges.specs.steps.Becoming.{WritesBeside};
+ghost use Rattle.hh_sqlchanges.specs.steps.Becoming.{WritesBeside, touched_entry};
 
 use hh_rows::SettlementPeriod;
 use hh_rules::{Position, PositionKey};
-use hh_sqlrows::{RowFault, replace_mark, replace_positions, touch_periods};
+use hh_sqlrows::tables::{Marks, Positions, Touched};
+use hh_sqlrows::{NoColumns, OneRow, RowFault, replace, replace_all};
 use sqlite::{Alter, Transaction};
 use std::alloc::Global;
 
@@ -21,19 +24,14 @@ pub fn write_beside_anew<S: Alter>(
     positions: &[(PositionKey, Position)],
     touched: &[SettlementPeriod],
 ) -> Result<(), RowFault>
-    ensures same_reference { tx.new.conn.ghost_name ≡ tx.old.conn.ghost_name }
+    ensures frame { WritesInside S.Store tx.old tx.new result }
     ensures writes { let old = state S.Store tx.old.conn.now in
         let new = state S.Store tx.new.conn.now in
         Inside old new (IsOffice old.now
         → OnOk result (WritesBesideAnew positions.now touched.now old.now new.now)) }
-    ensures inside { StaysInside (state S.Store tx.old.conn.now)
-        (state S.Store tx.new.conn.now) result }
-    ensures left { KeepsCommit (state S.Store tx.old.conn.now) (state S.Store tx.new.conn.now) }
-    ensures survives { CommitsNothing (state S.Store tx.old.conn.now)
-        (state S.Store tx.new.conn.now) }
 {
     write_beside(tx, alloc, positions, touched)?;
-    replace_mark(tx, alloc, true)
+    replace::<Marks, S>(tx, alloc, &OneRow, &true)
 }
 
 /// Writes positions, and which Settlement Periods were touched.
@@ -43,17 +41,30 @@ pub(crate) fn write_beside<S: Alter>(
     positions: &[(PositionKey, Position)],
     touched: &[SettlementPeriod],
 ) -> Result<(), RowFault>
-    ensures same_reference { tx.new.conn.ghost_name ≡ tx.old.conn.ghost_name }
+    ensures frame { WritesInside S.Store tx.old tx.new result }
     ensures writes { let old = state S.Store tx.old.conn.now in
         let new = state S.Store tx.new.conn.now in
         Inside old new (IsOffice old.now
         → OnOk result (WritesBeside positions.now touched.now old.now new.now)) }
-    ensures inside { StaysInside (state S.Store tx.old.conn.now)
-        (state S.Store tx.new.conn.now) result }
-    ensures left { KeepsCommit (state S.Store tx.old.conn.now) (state S.Store tx.new.conn.now) }
-    ensures survives { CommitsNothing (state S.Store tx.old.conn.now)
-        (state S.Store tx.new.conn.now) }
 {
-    replace_positions(tx, alloc, positions)?;
+    replace_all::<Positions, S>(tx, alloc, positions)?;
     touch_periods(tx, alloc, touched)
+}
+
+/// Writes that Settlement Periods were touched. Rows may say so already.
+fn touch_periods<S: Alter>(
+    tx: &mut Transaction<'_, S>,
+    alloc: Global,
+    periods: &[SettlementPeriod],
+) -> Result<(), RowFault>
+    ensures frame { WritesInside S.Store tx.old tx.new result }
+    ensures puts { let old = state S.Store tx.old.conn.now in
+        let new = state S.Store tx.new.conn.now in
+        Inside old new (IsOffice old.now
+        → OnOk result (PutsAll tables.touched (map touched_entry periods.now) old.now new.now)) }
+{
+    'periods: for at in periods {
+        replace::<Touched, S>(tx, alloc, at, &NoColumns)?;
+    }
+    Ok(())
 }

@@ -4,17 +4,15 @@ ghost use Rattle.std.specs.Prelude.{◌≡◌, filter_map, IfOk, OnOk};
 ghost use Rattle.hh_rules.specs.Entries.{contract_entry, meter_entry};
 ghost use Rattle.sqlite.specs.Held.{state};
 ghost use Rattle.hh_sqlrows.specs.Office.{IsOffice};
-ghost use Rattle.hh_sqlrows.specs.Statements.{CommitsNothing, Inside, KeepsCommit, StaysInside};
+ghost use Rattle.hh_sqlrows.specs.Reads.{Inside, WritesInside};
 ghost use Rattle.hh_sqlchanges.specs.steps.Becoming.{Becomes, BecomesOrLeaves};
 ghost use Rattle.hh_sqlchanges.specs.steps.FileRows.{with_file_row, with_file_rows};
 
 use hh_names::Reading;
 use hh_num::Kwh;
 use hh_rows::{ContractKey, Row, UnitPeriod};
-use hh_sqlrows::{
-    GROUP, RowFault, insert_contracts, insert_meters, replace_contract, replace_meter,
-    replace_party, replace_price, replace_reallocation, replace_unit,
-};
+use hh_sqlrows::tables::{Contracts, Meters, Parties, Prices, Reallocations, Units};
+use hh_sqlrows::{GROUP, RowFault, insert_group, replace};
 use sqlite::{Alter, Transaction};
 use std::alloc::{AllocError, Global};
 
@@ -25,16 +23,11 @@ pub(crate) fn write_file_rows<S: Alter>(
     alloc: Global,
     rows: &[Row],
 ) -> Result<(), RowFault>
-    ensures same_reference { tx.new.conn.ghost_name ≡ tx.old.conn.ghost_name }
+    ensures frame { WritesInside S.Store tx.old tx.new result }
     ensures writes { let old = state S.Store tx.old.conn.now in
         let new = state S.Store tx.new.conn.now in
         Inside old new (IsOffice old.now
         → OnOk result (Becomes (with_file_rows rows.now) old.now new.now)) }
-    ensures inside { StaysInside (state S.Store tx.old.conn.now)
-        (state S.Store tx.new.conn.now) result }
-    ensures left { KeepsCommit (state S.Store tx.old.conn.now) (state S.Store tx.new.conn.now) }
-    ensures survives { CommitsNothing (state S.Store tx.old.conn.now)
-        (state S.Store tx.new.conn.now) }
 {
     let mut are_new = true;
     'groups: for group in rows.chunks(GROUP) {
@@ -51,16 +44,11 @@ fn write_group<S: Alter>(
     rows: &[Row],
     may_be_new: bool,
 ) -> Result<bool, RowFault>
-    ensures same_reference { tx.new.conn.ghost_name ≡ tx.old.conn.ghost_name }
+    ensures frame { WritesInside S.Store tx.old tx.new result }
     ensures writes { let old = state S.Store tx.old.conn.now in
         let new = state S.Store tx.new.conn.now in
         Inside old new (IsOffice old.now
         → OnOk result (Becomes (with_file_rows rows.now) old.now new.now)) }
-    ensures inside { StaysInside (state S.Store tx.old.conn.now)
-        (state S.Store tx.new.conn.now) result }
-    ensures left { KeepsCommit (state S.Store tx.old.conn.now) (state S.Store tx.new.conn.now) }
-    ensures survives { CommitsNothing (state S.Store tx.old.conn.now)
-        (state S.Store tx.new.conn.now) }
 {
     if may_be_new {
         write_new_group(tx, alloc, rows)
@@ -76,18 +64,13 @@ fn write_new_group<S: Alter>(
     alloc: Global,
     rows: &[Row],
 ) -> Result<bool, RowFault>
-    ensures same_reference { tx.new.conn.ghost_name ≡ tx.old.conn.ghost_name }
+    ensures frame { WritesInside S.Store tx.old tx.new result }
     ensures writes { let old = state S.Store tx.old.conn.now in
         let new = state S.Store tx.new.conn.now in
         Inside old new (IsOffice old.now
         → OnOk result (Becomes (with_file_rows rows.now) old.now new.now)) }
-    ensures inside { StaysInside (state S.Store tx.old.conn.now)
-        (state S.Store tx.new.conn.now) result }
-    ensures left { KeepsCommit (state S.Store tx.old.conn.now) (state S.Store tx.new.conn.now) }
-    ensures survives { CommitsNothing (state S.Store tx.old.conn.now)
-        (state S.Store tx.new.conn.now) }
 {
-    if insert_group(tx, alloc, rows)? {
+    if insert_rows(tx, alloc, rows)? {
         Ok(true)
     } else {
         write_each_row(tx, alloc, rows)?;
@@ -97,21 +80,16 @@ fn write_new_group<S: Alter>(
 
 /// Writes a group of readings or of contracts by one statement, if their keys are new. `false` where not, or
 /// for other rows. Nothing is written then.
-fn insert_group<S: Alter>(
+fn insert_rows<S: Alter>(
     tx: &mut Transaction<'_, S>,
     alloc: Global,
     rows: &[Row],
 ) -> Result<bool, RowFault>
-    ensures same_reference { tx.new.conn.ghost_name ≡ tx.old.conn.ghost_name }
+    ensures frame { WritesInside S.Store tx.old tx.new result }
     ensures writes { let old = state S.Store tx.old.conn.now in
         let new = state S.Store tx.new.conn.now in
         Inside old new (IsOffice old.now
         → IfOk result (BecomesOrLeaves (with_file_rows rows.now) old.now new.now)) }
-    ensures inside { StaysInside (state S.Store tx.old.conn.now)
-        (state S.Store tx.new.conn.now) result }
-    ensures left { KeepsCommit (state S.Store tx.old.conn.now) (state S.Store tx.new.conn.now) }
-    ensures survives { CommitsNothing (state S.Store tx.old.conn.now)
-        (state S.Store tx.new.conn.now) }
 {
     match rows.first() {
         Some(Row::Meter(_)) => insert_readings(tx, alloc, rows),
@@ -127,20 +105,15 @@ fn insert_readings<S: Alter>(
     alloc: Global,
     rows: &[Row],
 ) -> Result<bool, RowFault>
-    ensures same_reference { tx.new.conn.ghost_name ≡ tx.old.conn.ghost_name }
+    ensures frame { WritesInside S.Store tx.old tx.new result }
     ensures writes { let old = state S.Store tx.old.conn.now in
         let new = state S.Store tx.new.conn.now in
         Inside old new (IsOffice old.now
         → IfOk result (BecomesOrLeaves (with_file_rows rows.now) old.now new.now)) }
-    ensures inside { StaysInside (state S.Store tx.old.conn.now)
-        (state S.Store tx.new.conn.now) result }
-    ensures left { KeepsCommit (state S.Store tx.old.conn.now) (state S.Store tx.new.conn.now) }
-    ensures survives { CommitsNothing (state S.Store tx.old.conn.now)
-        (state S.Store tx.new.conn.now) }
 {
     let readings = readings_of(alloc, rows)?;
     if readings.len() == rows.len() {
-        insert_meters(tx, alloc, readings.as_slice())
+        insert_group::<Meters, S>(tx, alloc, readings.as_slice())
     } else {
         Ok(false)
     }
@@ -153,20 +126,15 @@ fn insert_volumes<S: Alter>(
     alloc: Global,
     rows: &[Row],
 ) -> Result<bool, RowFault>
-    ensures same_reference { tx.new.conn.ghost_name ≡ tx.old.conn.ghost_name }
+    ensures frame { WritesInside S.Store tx.old tx.new result }
     ensures writes { let old = state S.Store tx.old.conn.now in
         let new = state S.Store tx.new.conn.now in
         Inside old new (IsOffice old.now
         → IfOk result (BecomesOrLeaves (with_file_rows rows.now) old.now new.now)) }
-    ensures inside { StaysInside (state S.Store tx.old.conn.now)
-        (state S.Store tx.new.conn.now) result }
-    ensures left { KeepsCommit (state S.Store tx.old.conn.now) (state S.Store tx.new.conn.now) }
-    ensures survives { CommitsNothing (state S.Store tx.old.conn.now)
-        (state S.Store tx.new.conn.now) }
 {
     let volumes = volumes_of(alloc, rows)?;
     if volumes.len() == rows.len() {
-        insert_contracts(tx, alloc, volumes.as_slice())
+        insert_group::<Contracts, S>(tx, alloc, volumes.as_slice())
     } else {
         Ok(false)
     }
@@ -202,16 +170,11 @@ fn write_each_row<S: Alter>(
     alloc: Global,
     rows: &[Row],
 ) -> Result<(), RowFault>
-    ensures same_reference { tx.new.conn.ghost_name ≡ tx.old.conn.ghost_name }
+    ensures frame { WritesInside S.Store tx.old tx.new result }
     ensures writes { let old = state S.Store tx.old.conn.now in
         let new = state S.Store tx.new.conn.now in
         Inside old new (IsOffice old.now
         → OnOk result (Becomes (with_file_rows rows.now) old.now new.now)) }
-    ensures inside { StaysInside (state S.Store tx.old.conn.now)
-        (state S.Store tx.new.conn.now) result }
-    ensures left { KeepsCommit (state S.Store tx.old.conn.now) (state S.Store tx.new.conn.now) }
-    ensures survives { CommitsNothing (state S.Store tx.old.conn.now)
-        (state S.Store tx.new.conn.now) }
 {
     'rows: for row in rows {
         write_file_row(tx, alloc, row)?;
@@ -225,23 +188,20 @@ fn write_file_row<S: Alter>(
     alloc: Global,
     row: &Row,
 ) -> Result<(), RowFault>
-    ensures same_reference { tx.new.conn.ghost_name ≡ tx.old.conn.ghost_name }
+    ensures frame { WritesInside S.Store tx.old tx.new result }
     ensures writes { let old = state S.Store tx.old.conn.now in
         let new = state S.Store tx.new.conn.now in
         Inside old new (IsOffice old.now
         → OnOk result (Becomes (with_file_row row.now) old.now new.now)) }
-    ensures inside { StaysInside (state S.Store tx.old.conn.now)
-        (state S.Store tx.new.conn.now) result }
-    ensures left { KeepsCommit (state S.Store tx.old.conn.now) (state S.Store tx.new.conn.now) }
-    ensures survives { CommitsNothing (state S.Store tx.old.conn.now)
-        (state S.Store tx.new.conn.now) }
 {
     match row {
-        Row::Party(row) => replace_party(tx, alloc, row),
-        Row::Unit(row) => replace_unit(tx, alloc, row),
-        Row::Meter(row) => replace_meter(tx, alloc, row),
-        Row::Price(row) => replace_price(tx, alloc, row),
-        Row::Contract(row) => replace_contract(tx, alloc, row),
-        Row::Reallocation(row) => replace_reallocation(tx, alloc, row),
+        Row::Party(row) => replace::<Parties, S>(tx, alloc, &row.party, &row.registration),
+        Row::Unit(row) => replace::<Units, S>(tx, alloc, &row.unit, &row.registration),
+        Row::Meter(row) => replace::<Meters, S>(tx, alloc, &row.key, &row.reading),
+        Row::Price(row) => replace::<Prices, S>(tx, alloc, &row.at, &row.price),
+        Row::Contract(row) => { replace::<Contracts, S>(tx, alloc, &row.key, &row.contract.volume) }
+        Row::Reallocation(row) => {
+            replace::<Reallocations, S>(tx, alloc, &row.key, &row.reallocation)
+        }
     }
 }

@@ -3,7 +3,7 @@
 ghost use Rattle.std.specs.Prelude.{◌≡◌, OnOk};
 ghost use Rattle.sqlite.specs.Held.{state};
 ghost use Rattle.hh_sqlrows.specs.Office.{IsOffice};
-ghost use Rattle.hh_sqlrows.specs.Statements.{CommitsNothing, Inside, KeepsCommit, StaysInside};
+ghost use Rattle.hh_sqlrows.specs.Reads.{Inside, WritesInside};
 ghost use Rattle.hh_states.specs.Changes.{effect_of_load};
 ghost use Rattle.hh_sqlchanges.specs.Writes.{ChangesByLoad};
 ghost use Rattle.hh_sqlchanges.specs.steps.Becoming.{Becomes};
@@ -12,7 +12,8 @@ use crate::beside_writing::write_beside;
 use crate::file_rows::write_file_rows;
 use hh_rows::SettlementPeriod;
 use hh_rules::{Position, PositionKey};
-use hh_sqlrows::{LoadChange, RowFault, replace_file, replace_references};
+use hh_sqlrows::tables::{Files, References};
+use hh_sqlrows::{LoadChange, RowFault, replace, replace_all};
 use sqlite::{Alter, Transaction};
 use std::alloc::Global;
 
@@ -27,16 +28,11 @@ pub fn write_load<S: Alter>(
     positions: &[(PositionKey, Position)],
     touched: &[SettlementPeriod],
 ) -> Result<(), RowFault>
-    ensures same_reference { tx.new.conn.ghost_name ≡ tx.old.conn.ghost_name }
+    ensures frame { WritesInside S.Store tx.old tx.new result }
     ensures writes { let old = state S.Store tx.old.conn.now in
         let new = state S.Store tx.new.conn.now in
         Inside old new (IsOffice old.now → OnOk result
         (ChangesByLoad change.now positions.now touched.now old.now new.now)) }
-    ensures inside { StaysInside (state S.Store tx.old.conn.now)
-        (state S.Store tx.new.conn.now) result }
-    ensures left { KeepsCommit (state S.Store tx.old.conn.now) (state S.Store tx.new.conn.now) }
-    ensures survives { CommitsNothing (state S.Store tx.old.conn.now)
-        (state S.Store tx.new.conn.now) }
 {
     write_content(tx, alloc, change)?;
     write_beside(tx, alloc, positions, touched)
@@ -48,18 +44,13 @@ fn write_content<S: Alter>(
     alloc: Global,
     change: &LoadChange,
 ) -> Result<(), RowFault>
-    ensures same_reference { tx.new.conn.ghost_name ≡ tx.old.conn.ghost_name }
+    ensures frame { WritesInside S.Store tx.old tx.new result }
     ensures writes { let old = state S.Store tx.old.conn.now in
         let new = state S.Store tx.new.conn.now in
         Inside old new (IsOffice old.now
         → OnOk result (Becomes (effect_of_load change.now) old.now new.now)) }
-    ensures inside { StaysInside (state S.Store tx.old.conn.now)
-        (state S.Store tx.new.conn.now) result }
-    ensures left { KeepsCommit (state S.Store tx.old.conn.now) (state S.Store tx.new.conn.now) }
-    ensures survives { CommitsNothing (state S.Store tx.old.conn.now)
-        (state S.Store tx.new.conn.now) }
 {
-    replace_file(tx, alloc, &change.key(), change.file())?;
+    replace::<Files, S>(tx, alloc, &change.key(), change.file())?;
     write_file_rows(tx, alloc, change.rows())?;
-    replace_references(tx, alloc, change.references())
+    replace_all::<References, S>(tx, alloc, change.references())
 }

@@ -3,13 +3,15 @@
 ghost use Rattle.std.specs.Prelude.{◌≡◌, OnOk};
 ghost use Rattle.sqlite.specs.Held.{state};
 ghost use Rattle.hh_sqlrows.specs.Office.{IsOffice};
-ghost use Rattle.hh_sqlrows.specs.Statements.{CommitsNothing, Inside, KeepsCommit, StaysInside};
+ghost use Rattle.hh_sqlrows.specs.Reads.{Inside, WritesInside};
 ghost use Rattle.hh_sqlchanges.specs.Writes.{ChangesByRun};
 ghost use Rattle.hh_sqlchanges.specs.steps.Becoming.{StoresRunAlone};
 
+use hh_sqlrows::tables::{Credits, Postings, Runs, Touched};
 use hh_sqlrows::{
-    RowFault, RunChange, insert_credits, insert_postings, insert_results, insert_run, untouch_on,
+    RowFault, RunChange, insert_all, insert_results, remove_under, replace, replace_all,
 };
+use hh_time::SettlementDate;
 use sqlite::{Alter, Transaction};
 use std::alloc::Global;
 
@@ -21,19 +23,14 @@ pub fn write_run<S: Alter>(
     alloc: Global,
     change: &RunChange,
 ) -> Result<(), RowFault>
-    ensures same_reference { tx.new.conn.ghost_name ≡ tx.old.conn.ghost_name }
+    ensures frame { WritesInside S.Store tx.old tx.new result }
     ensures writes { let old = state S.Store tx.old.conn.now in
         let new = state S.Store tx.new.conn.now in
         Inside old new (IsOffice old.now
         → OnOk result (ChangesByRun change.now old.now new.now)) }
-    ensures inside { StaysInside (state S.Store tx.old.conn.now)
-        (state S.Store tx.new.conn.now) result }
-    ensures left { KeepsCommit (state S.Store tx.old.conn.now) (state S.Store tx.new.conn.now) }
-    ensures survives { CommitsNothing (state S.Store tx.old.conn.now)
-        (state S.Store tx.new.conn.now) }
 {
     write_run_rows(tx, alloc, change)?;
-    untouch_on(tx, alloc, &change.key().date)
+    remove_under::<Touched, SettlementDate, S>(tx, alloc, &change.key().date)
 }
 
 /// Writes a run's summary, the rows of its accounts, its credits and its postings.
@@ -42,19 +39,14 @@ fn write_run_rows<S: Alter>(
     alloc: Global,
     change: &RunChange,
 ) -> Result<(), RowFault>
-    ensures same_reference { tx.new.conn.ghost_name ≡ tx.old.conn.ghost_name }
+    ensures frame { WritesInside S.Store tx.old tx.new result }
     ensures writes { let old = state S.Store tx.old.conn.now in
         let new = state S.Store tx.new.conn.now in
         Inside old new (IsOffice old.now
         → OnOk result (StoresRunAlone change.now old.now new.now)) }
-    ensures inside { StaysInside (state S.Store tx.old.conn.now)
-        (state S.Store tx.new.conn.now) result }
-    ensures left { KeepsCommit (state S.Store tx.old.conn.now) (state S.Store tx.new.conn.now) }
-    ensures survives { CommitsNothing (state S.Store tx.old.conn.now)
-        (state S.Store tx.new.conn.now) }
 {
-    insert_run(tx, alloc, &change.key(), &change.summary())?;
+    replace::<Runs, S>(tx, alloc, &change.key(), &change.summary())?;
     insert_results(tx, alloc, change.results())?;
-    insert_credits(tx, alloc, change.credits())?;
-    insert_postings(tx, alloc, change.postings())
+    insert_all::<Credits, S>(tx, alloc, change.credits())?;
+    replace_all::<Postings, S>(tx, alloc, change.postings())
 }

@@ -25,7 +25,7 @@ use Rattle.hh_rules.specs.History.{Registered, nothing_registered}
 use Rattle.hh_states.specs.PeriodSettlement.{units_on}
 use Rattle.hh_kept_rows.specs.DayRows.{AgreesOnUnitAt, HasContractsOn, HasRowsOn}
 use Rattle.hh_sqlrows.specs.OfficeTables.{is_of_unit_on, unit_date_cmp}
-use Rattle.hh_sqlparts.specs.declared.named_names.UnitDay.{UnitDay}
+use Rattle.hh_sqlrows.specs.declared.unit_date.UnitDate.{UnitDate}
 use Rattle.hh_sqlparts.specs.steps.DayParts.{contracts_on, ids_on, on_date, references_in, with_day_contracts, with_registered, with_rows_of_units}
 use Rattle.hh_sqlparts.specs.steps.Named.{entry_under, readings_of, reallocations_of}
 use Rattle.hh_sqlparts.proofs.NamedRows.{entry_found, find_kept_by, same_tested, tested_kept}
@@ -101,7 +101,7 @@ module _ (date : ℕ) (whole part : Registered) (meters : part.meters ≡ flat_m
       record {
         reading = ap (find unit_period_cmp key) meters
             ∙ find_kept_by unit_period_cmp whole.meters (readings_of whole.meters) (λ n k. is_of_unit_on n.unit n.date k) (reading_found whole.meters) (map (on_date date) (ids_on date whole.units)) key
-            (any_mapped (λ (n : UnitDay). is_of_unit_on n.unit n.date key) (on_date date) (ids_on date whole.units)
+            (any_mapped (λ (n : UnitDate). is_of_unit_on n.unit n.date key) (on_date date) (ids_on date whole.units)
             ∙ any_mapped (λ id. is_of_unit_on id date key) (λ (e : List ℕ × UnitRegistration). e.0) (units_on whole date)
             ∙ list_any_at (λ (e : List ℕ × UnitRegistration). is_of_unit_on e.0 date key) (units_on whole date) i d inside
             (ap (λ day. is_of_unit_on unit day key) (sym on) ∙ ap is_eq (tied_itself unit_date_total (unit, at.date))));

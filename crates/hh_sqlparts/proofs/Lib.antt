@@ -5,7 +5,7 @@ pub mod NamedForms
 pub mod NamedNames
 pub mod NamedParts
 pub mod NamedRows
-pub mod NamedSelects
 pub mod NamedTables
 pub mod PositionsAnew
 pub mod ReadingLaws
+pub mod TouchLaws

@@ -28,12 +28,12 @@ use Rattle.hh_rules.specs.declared.positions.Position.{Position}
 use Rattle.hh_rules.specs.declared.positions.PositionKey.{PositionKey}
 use Rattle.hh_kept_rows.proofs.PositionKeys.{position_key_total}
 use Rattle.hh_sqlrows.specs.OfficeTables.{is_of_unit_on}
-use Rattle.hh_sqlparts.specs.declared.named_names.UnitDay.{UnitDay}
+use Rattle.hh_sqlrows.specs.declared.unit_date.UnitDate.{UnitDate}
 use Rattle.hh_sqlparts.specs.steps.Named.{FindsNamed, HasReallocated, IsAmong, date_of, entry_under, price_key_of, prices_of, reading_key_of, readings_of, reallocated_at, reallocated_of, reallocations_of, reference_of, unit_day, unit_day_of, unit_of, volume_key_of}
 use Rattle.hh_sqlparts.proofs.NamedRows.{IsOf, entry_found, entry_is, find_named, same_tested, tested_are, tested_found}
 
 -- order by unit, then by date
-abbrev pub unit_day_cmp : UnitDay → UnitDay → Ordering
+abbrev pub unit_day_cmp : UnitDate → UnitDate → Ordering
 unit_day_cmp = then_cmp (on (λ n. n.unit) bytes_cmp) (on (λ n. n.date) nat_cmp)
 
 -- what follows from a row's key, given the name of that key
@@ -47,7 +47,7 @@ own_name (Some k) = refl
 
 -- ---- what is found of a unit's rows
 
-pub reading_found : (whole : Table UnitPeriod Reading) (n : UnitDay) (k : UnitPeriod) → find unit_period_cmp k (readings_of whole n) ≡ cond (is_of_unit_on n.unit n.date k) (find unit_period_cmp k whole) None
+pub reading_found : (whole : Table UnitPeriod Reading) (n : UnitDate) (k : UnitPeriod) → find unit_period_cmp k (readings_of whole n) ≡ cond (is_of_unit_on n.unit n.date k) (find unit_period_cmp k whole) None
 reading_found whole n = tested_found unit_period_cmp exact_unit_periods whole (is_of_unit_on n.unit n.date)
 
 pub reallocation_found : (whole : Table ReallocationKey Reallocation) (unit : List ℕ) (k : ReallocationKey)
@@ -101,7 +101,7 @@ module _ (rows : List Row) where
       (entry_is position_key_cmp position_key_total whole) (entry_found position_key_cmp position_key_total whole)
       key key (λ r. own_name (key r)) rows
 
-  pub meters_named : (whole : Table UnitPeriod Reading) → T (is_sorted unit_period_cmp whole) → (names : List UnitDay) → All (IsAmong unit_day_cmp unit_day_of names) rows → (found part : Table UnitPeriod Reading)
+  pub meters_named : (whole : Table UnitPeriod Reading) → T (is_sorted unit_period_cmp whole) → (names : List UnitDate) → All (IsAmong unit_day_cmp unit_day_of names) rows → (found part : Table UnitPeriod Reading)
       → found ≡ flat_map (readings_of whole) names → part ≡ put_all unit_period_cmp found []
       → FindsNamed unit_period_cmp reading_key_of rows whole part
   meters_named whole order =

@@ -1,34 +1,17 @@
--- One reading of an office after the other: what both leave together, and what holds for both if one of them finds it.
-use Rattle.std.proofs.Common.{◌≡◌, ◌∙◌, ◌⊎◌, inl, inr, IsTrue, sym, subst}
-use Rattle.std.specs.Prelude.{⊤, Ok}
+-- One reading of an office after the other, and what holds for both if one of them finds it.
+use Rattle.std.proofs.Common.{◌≡◌, ◌∙◌, IsTrue, Result, sym, subst}
 use Rattle.sqlite.specs.Effect.{Database}
-use Rattle.sqlite.specs.State.{HasCleanDisk, State}
+use Rattle.sqlite.specs.State.{State}
 use Rattle.hh_sqlrows.specs.Office.{IsOffice}
-use Rattle.hh_sqlrows.specs.Reads.{CommitsNothingOf, IsHonest, LeavesOffice, OfOffice, Stood}
-use Rattle.hh_sqlparts.specs.Readings.{ReadsSafely, SelectsOnly, OfSettled}
+use Rattle.hh_sqlrows.specs.Reads.{OfSettled, ReadsOffice, ReadsSettled}
+use Rattle.hh_sqlparts.specs.steps.Readings.{SelectsOnly}
 
--- readings were answered, and did no harm
-abbrev pub HaveReadSafely : State → State → Type 0
-HaveReadSafely old now = ReadsSafely {X = ⊤} {E = ⊤} old now (Ok tt)
+-- readings select only
+pub only : {X E : Type 0} (old new : State) (r : Result X E) → ReadsSettled old new r → SelectsOnly old new
+only old new r h = record { stood = h.stood; left = λ up is settled. h.left up (is, settled) settled }
 
--- a statement that selects rows is a reading
-pub reading_of_statement : (old new : State) → Stood old new → LeavesOffice old new → SelectsOnly old new
-reading_of_statement old new stood left = record { stood = λ stands. (stood stands).0; left = left }
-
-or_never : {A : Type 0} → A ⊎ ⊥ → A
-or_never (inl a) = a
-or_never (inr none) = absurd none
-
--- one more statement that was answered, after readings that were answered
-pub safely_more : (old mid new : State) → SelectsOnly old mid → HaveReadSafely old mid → (HasCleanDisk new → IsTrue new.is_open) → IsHonest mid new → CommitsNothingOf mid new → HaveReadSafely old new
-safely_more old mid new reading first opened honest nothing = record {
-  honest = λ clean. first.honest (honest clean);
-  stays = λ clean stands. opened clean;
-  crash = λ stands is settled clean trees may.
-      let before = honest clean in
-      let kept = reading.left (first.stays before stands) is settled in
-      first.crash stands is settled before trees (or_never ((nothing (subst IsOffice (sym kept.0) is)).crash clean trees may));
-}
+pub only_one : {X E : Type 0} (old new : State) (r : Result X E) → ReadsOffice old new r → SelectsOnly old new
+only_one old new r h = record { stood = h.stood; left = λ up is settled. h.left up is settled }
 
 module _ (old mid new : State) (first : SelectsOnly old mid) (last : SelectsOnly mid new) where
   module _ (stands : IsTrue new.is_open) (is : IsOffice old.now) (settled : old.now ≡ old.committed) where
@@ -60,7 +43,8 @@ module _ (old mid new : State) (first : SelectsOnly old mid) (last : SelectsOnly
   found_last P found stands is settled =
       subst P (between stands is settled).0 (found stands (is_office_between stands is settled) (settled_between stands is settled))
 
-  -- the same for what it finds even if not everything was committed
-  pub found_last_of_office : (P : Database → Type 0) → OfOffice mid new (P mid.now) → OfSettled old new (P old.now)
-  found_last_of_office P found stands is settled =
-      subst P (between stands is settled).0 (found stands (is_office_between stands is settled))
+-- what one reading finds and what the next finds hold for both readings
+pub found_both : (old mid new : State) → SelectsOnly old mid → SelectsOnly mid new → (P Q : Database → Type 0) → OfSettled old mid (P old.now) → OfSettled mid new (Q mid.now)
+    → OfSettled old new (P old.now × Q old.now)
+found_both old mid new first last P Q one two stands office settled =
+    (found_first old mid new first last (P old.now) one stands office settled, found_last old mid new first last Q two stands office settled)

@@ -1,6 +1,5 @@
 pub mod BesideAnew
 pub mod Named
-pub mod Readings
 pub mod steps
 pub use Rattle.hh_kept_rows.specs.Parts
 pub use Rattle.hh_kept_rows.specs.DayBeside

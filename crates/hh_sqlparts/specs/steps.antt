@@ -2,3 +2,4 @@
 pub mod DayParts
 pub mod Moved
 pub mod Named
+pub mod Readings

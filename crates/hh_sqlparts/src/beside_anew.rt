@@ -1,6 +1,6 @@
 //! What must be kept beside an office's tables if nothing is kept beside them yet.
 
-ghost use Rattle.std.specs.Prelude.{◌≡◌, ◌++◌, [], false, filter_map, IfOk, OnOk};
+ghost use Rattle.std.specs.Prelude.{◌≡◌, ◌++◌, [], filter_map, IfOk, OnOk};
 ghost use Rattle.sqlite.specs.Held.{state};
 ghost use Rattle.hh_states.specs.DaySettlement.{periods_on};
 ghost use Rattle.hh_states.specs.PeriodSettlement.{row_in_force};
@@ -8,9 +8,8 @@ ghost use Rattle.hh_kept_rows.specs.Keeping.{periods_of_runs, positions_by, posi
 ghost use Rattle.hh_sqlrows.specs.Contents.{registered_of};
 ghost use Rattle.hh_sqlrows.specs.Forms.{rows_under_keys};
 ghost use Rattle.hh_sqlrows.specs.OfficeTables.{contracts, references, runs};
-ghost use Rattle.hh_sqlrows.specs.Reads.{OfOffice, StaysOpen};
 ghost use Rattle.hh_sqlparts.specs.BesideAnew.{HasNothingBeside, IsBesideAnew};
-ghost use Rattle.hh_sqlparts.specs.Readings.{LeavesNoMore, OfCommitted, OfSettled, ReadsSafely, SelectsOnly};
+ghost use Rattle.hh_sqlrows.specs.Reads.{OfOffice, OfSettled, ReadsSettled};
 
 use crate::tables::table_of;
 use hh_kept_rows::KeptRegister;
@@ -19,9 +18,8 @@ use hh_num::Kwh;
 use hh_rows::{ContractKey, ContractRow, SettlementPeriod};
 use hh_rules::{Position, PositionKey, Positions};
 use hh_runs::{RunKey, Summary};
-use hh_sqlrows::{
-    RowFault, select_contracts, select_positions, select_references, select_runs, select_touched,
-};
+use hh_sqlrows::tables::{Contracts, References, Runs, Touched};
+use hh_sqlrows::{RowFault, select_all, tables};
 use hh_time::SettlementDate;
 use sqlite::{Alter, Connection};
 use std::alloc::{AllocError, Global};
@@ -43,16 +41,10 @@ pub fn select_beside_anew<S: Alter>(
     conn: &mut Connection<S>,
     alloc: Global,
 ) -> Result<BesideAnew, RowFault>
+    ensures frame { ReadsSettled (state S.Store conn.old) (state S.Store conn.new) result }
     ensures value { let old = state S.Store conn.old in
         let new = state S.Store conn.new in
         OfSettled old new (IfOk result (IsBesideAnew old.now.trees)) }
-    ensures reading { SelectsOnly (state S.Store conn.old) (state S.Store conn.new) }
-    ensures safe { ReadsSafely (state S.Store conn.old) (state S.Store conn.new) result }
-    ensures stays { StaysOpen (state S.Store conn.old) (state S.Store conn.new) result }
-    ensures crash { let old = state S.Store conn.old in
-        let new = state S.Store conn.new in
-        OfCommitted old (LeavesNoMore old new) }
-    ensures mode { conn.old.in_transaction ≡ false → conn.new.in_transaction ≡ false }
 {
     select_nothing_beside(conn, alloc)?;
     let positions = select_positions_anew(conn, alloc)?;
@@ -62,19 +54,13 @@ pub fn select_beside_anew<S: Alter>(
 
 /// `Store` if something is kept beside the tables.
 fn select_nothing_beside<S: Alter>(conn: &mut Connection<S>, alloc: Global) -> Result<(), RowFault>
+    ensures frame { ReadsSettled (state S.Store conn.old) (state S.Store conn.new) result }
     ensures value { let old = state S.Store conn.old in
         let new = state S.Store conn.new in
         OfSettled old new (OnOk result (HasNothingBeside old.now.trees)) }
-    ensures reading { SelectsOnly (state S.Store conn.old) (state S.Store conn.new) }
-    ensures safe { ReadsSafely (state S.Store conn.old) (state S.Store conn.new) result }
-    ensures stays { StaysOpen (state S.Store conn.old) (state S.Store conn.new) result }
-    ensures crash { let old = state S.Store conn.old in
-        let new = state S.Store conn.new in
-        OfCommitted old (LeavesNoMore old new) }
-    ensures mode { conn.old.in_transaction ≡ false → conn.new.in_transaction ≡ false }
 {
-    none_of(select_positions(conn, alloc)?)?;
-    none_of(select_touched(conn, alloc)?)
+    none_of(select_all::<tables::Positions, S>(conn, alloc)?)?;
+    none_of(select_all::<Touched, S>(conn, alloc)?)
 }
 
 /// `Store` if there is a row.
@@ -93,17 +79,11 @@ fn select_positions_anew<S: Alter>(
     conn: &mut Connection<S>,
     alloc: Global,
 ) -> Result<Vec<(PositionKey, Position)>, RowFault>
+    ensures frame { ReadsSettled (state S.Store conn.old) (state S.Store conn.new) result }
     ensures value { let old = state S.Store conn.old in
         let new = state S.Store conn.new in
         OfSettled old new (IfOk result (λ found.
         found.items ≡ positions_by (registered_of old.now.trees))) }
-    ensures reading { SelectsOnly (state S.Store conn.old) (state S.Store conn.new) }
-    ensures safe { ReadsSafely (state S.Store conn.old) (state S.Store conn.new) result }
-    ensures stays { StaysOpen (state S.Store conn.old) (state S.Store conn.new) result }
-    ensures crash { let old = state S.Store conn.old in
-        let new = state S.Store conn.new in
-        OfCommitted old (LeavesNoMore old new) }
-    ensures mode { conn.old.in_transaction ≡ false → conn.new.in_transaction ≡ false }
 {
     let tables = select_all_contracts(conn, alloc)?;
     Ok(positions_by(alloc, &tables)?)
@@ -126,22 +106,16 @@ fn select_all_contracts<S: Alter>(
     conn: &mut Connection<S>,
     alloc: Global,
 ) -> Result<KeptRegister, RowFault>
+    ensures frame { ReadsSettled (state S.Store conn.old) (state S.Store conn.new) result }
     ensures value { let old = state S.Store conn.old in
         let new = state S.Store conn.new in
         OfSettled old new (IfOk result (λ part.
         (part.contracts ≡ rows_under_keys contracts old.now.trees)
         × (part.references ≡ rows_under_keys references old.now.trees))) }
-    ensures reading { SelectsOnly (state S.Store conn.old) (state S.Store conn.new) }
-    ensures safe { ReadsSafely (state S.Store conn.old) (state S.Store conn.new) result }
-    ensures stays { StaysOpen (state S.Store conn.old) (state S.Store conn.new) result }
-    ensures crash { let old = state S.Store conn.old in
-        let new = state S.Store conn.new in
-        OfCommitted old (LeavesNoMore old new) }
-    ensures mode { conn.old.in_transaction ≡ false → conn.new.in_transaction ≡ false }
 {
     let mut part = KeptRegister::new(alloc);
-    part.contracts = table_of(select_contracts(conn, alloc)?)?;
-    part.references = table_of(select_references(conn, alloc)?)?;
+    part.contracts = table_of(select_all::<Contracts, S>(conn, alloc)?)?;
+    part.references = table_of(select_all::<References, S>(conn, alloc)?)?;
     Ok(part)
 }
 
@@ -187,19 +161,13 @@ fn select_periods_of_runs<S: Alter>(
     conn: &mut Connection<S>,
     alloc: Global,
 ) -> Result<Vec<SettlementPeriod>, RowFault>
+    ensures frame { ReadsSettled (state S.Store conn.old) (state S.Store conn.new) result }
     ensures value { let old = state S.Store conn.old in
         let new = state S.Store conn.new in
         OfOffice old new (IfOk result (λ found.
         found.items ≡ periods_of_runs (rows_under_keys runs old.now.trees))) }
-    ensures reading { SelectsOnly (state S.Store conn.old) (state S.Store conn.new) }
-    ensures safe { ReadsSafely (state S.Store conn.old) (state S.Store conn.new) result }
-    ensures stays { StaysOpen (state S.Store conn.old) (state S.Store conn.new) result }
-    ensures crash { let old = state S.Store conn.old in
-        let new = state S.Store conn.new in
-        OfCommitted old (LeavesNoMore old new) }
-    ensures mode { conn.old.in_transaction ≡ false → conn.new.in_transaction ≡ false }
 {
-    match select_runs(conn, alloc) {
+    match select_all::<Runs, S>(conn, alloc) {
         Ok(made) => periods_of_runs(alloc, &made),
         Err(fault) => Err(fault),
     }

@@ -1,27 +1,24 @@
 //! What is kept beside the rows of a date.
 
-ghost use Rattle.std.specs.Prelude.{◌≡◌, ◌==◌, false, filter, map, IfOk, IfSome};
+ghost use Rattle.std.specs.Prelude.{◌≡◌, ◌==◌, filter, map, IfOk, IfSome};
 ghost use Rattle.std.specs.Ordering.{eq_by_cmp, is_eq, nat_cmp};
 ghost use Rattle.hh_rows.specs.declared.settings.Settings.{Settings};
 ghost use Rattle.hh_states.specs.Runs.{last_of, run_key_cmp};
 ghost use Rattle.hh_kept_rows.specs.DayBeside.{IsBesideOf};
 ghost use Rattle.sqlite.specs.Held.{state};
-ghost use Rattle.hh_sqlrows.specs.Contents.{beside_in, content_of, result_of};
+ghost use Rattle.hh_sqlrows.specs.Contents.{beside_in, content_of, result_of, touched_periods};
 ghost use Rattle.hh_sqlrows.specs.Forms.{rows_under_keys};
 ghost use Rattle.hh_sqlrows.specs.OfficeTables.{credits, positions, results, runs};
-ghost use Rattle.hh_sqlrows.specs.Reads.{OfOffice};
-ghost use Rattle.hh_sqlparts.specs.Readings.{ReadsSafely, SelectsOnly, OfSettled};
+ghost use Rattle.hh_sqlrows.specs.Reads.{OfOffice, OfSettled, ReadsOffice, ReadsSettled};
 
 use crate::tables::table_of;
 use hh_calc::AccountRow;
 use hh_kept_rows::DayBeside;
 use hh_num::Ticks;
-use hh_rules::{Position, PositionKey};
+use hh_rules::{Position, PositionKey, SettlementPeriod};
 use hh_runs::{RunKey, Summary};
-use hh_sqlrows::{
-    AccountAmounts, RowFault, select_credits_of, select_positions_on, select_results_of,
-    select_runs_on, select_touched_on,
-};
+use hh_sqlrows::tables::{Credits, Positions, Results, Runs, Touched};
+use hh_sqlrows::{AccountAmounts, NoColumns, RowFault, select_under};
 use hh_states::{CreditKey, ResultKey};
 use hh_tables::ListTable;
 use hh_time::SettlementDate;
@@ -35,13 +32,11 @@ pub fn select_day_beside<S: Alter>(
     alloc: Global,
     date: SettlementDate,
 ) -> Result<DayBeside, RowFault>
+    ensures frame { ReadsSettled (state S.Store conn.old) (state S.Store conn.new) result }
     ensures value { let old = state S.Store conn.old in
         let new = state S.Store conn.new in
         (settings : Settings) → OfSettled old new (IfOk result (λ day.
         IsBesideOf (content_of settings old.now.trees) (beside_in old.now.trees) date day)) }
-    ensures reading { SelectsOnly (state S.Store conn.old) (state S.Store conn.new) }
-    ensures safe { ReadsSafely (state S.Store conn.old) (state S.Store conn.new) result }
-    ensures mode { conn.old.in_transaction ≡ false → conn.new.in_transaction ≡ false }
 {
     let latest = latest_on(conn, alloc, date)?;
     let results = results_of_latest(conn, alloc, &latest)?;
@@ -63,15 +58,13 @@ fn latest_on<S: Alter>(
     alloc: Global,
     date: SettlementDate,
 ) -> Result<Option<(RunKey, Summary)>, RowFault>
+    ensures frame { ReadsSettled (state S.Store conn.old) (state S.Store conn.new) result }
     ensures value { let old = state S.Store conn.old in
         let new = state S.Store conn.new in
         OfOffice old new (IfOk result (λ latest. latest
         ≡ last_of (filter (λ e. e.0.date == date) (rows_under_keys runs old.now.trees)))) }
-    ensures reading { SelectsOnly (state S.Store conn.old) (state S.Store conn.new) }
-    ensures safe { ReadsSafely (state S.Store conn.old) (state S.Store conn.new) result }
-    ensures mode { conn.old.in_transaction ≡ false → conn.new.in_transaction ≡ false }
 {
-    let runs = select_runs_on(conn, alloc, &date)?;
+    let runs = select_under::<Runs, SettlementDate, S>(conn, alloc, &date)?;
     Ok(runs.last().copied())
 }
 
@@ -81,18 +74,16 @@ fn results_of_latest<S: Alter>(
     alloc: Global,
     latest: &Option<(RunKey, Summary)>,
 ) -> Result<ListTable<ResultKey, AccountRow>, RowFault>
+    ensures frame { ReadsSettled (state S.Store conn.old) (state S.Store conn.new) result }
     ensures value { let old = state S.Store conn.old in
         let new = state S.Store conn.new in
         OfOffice old new (IfOk result (λ table. IfSome latest.now (λ run. table
         ≡ filter (λ e. eq_by_cmp run_key_cmp e.0.run run.0)
         (map result_of (rows_under_keys results old.now.trees))))) }
-    ensures reading { SelectsOnly (state S.Store conn.old) (state S.Store conn.new) }
-    ensures safe { ReadsSafely (state S.Store conn.old) (state S.Store conn.new) result }
-    ensures mode { conn.old.in_transaction ≡ false → conn.new.in_transaction ≡ false }
 {
     match latest {
         Some(run) => {
-            let amounts = select_results_of(conn, alloc, &run.0)?;
+            let amounts = select_under::<Results, RunKey, S>(conn, alloc, &run.0)?;
             table_of(account_rows(alloc, &amounts)?)
         }
         None => Ok(ListTable::new(alloc)),
@@ -118,17 +109,15 @@ fn credits_of_latest<S: Alter>(
     alloc: Global,
     latest: &Option<(RunKey, Summary)>,
 ) -> Result<ListTable<CreditKey, Ticks>, RowFault>
+    ensures frame { ReadsSettled (state S.Store conn.old) (state S.Store conn.new) result }
     ensures value { let old = state S.Store conn.old in
         let new = state S.Store conn.new in
         OfOffice old new (IfOk result (λ table. IfSome latest.now (λ run. table
         ≡ filter (λ e. eq_by_cmp run_key_cmp e.0.run run.0)
         (rows_under_keys credits old.now.trees)))) }
-    ensures reading { SelectsOnly (state S.Store conn.old) (state S.Store conn.new) }
-    ensures safe { ReadsSafely (state S.Store conn.old) (state S.Store conn.new) result }
-    ensures mode { conn.old.in_transaction ≡ false → conn.new.in_transaction ≡ false }
 {
     match latest {
-        Some(run) => table_of(select_credits_of(conn, alloc, &run.0)?),
+        Some(run) => table_of(select_under::<Credits, RunKey, S>(conn, alloc, &run.0)?),
         None => Ok(ListTable::new(alloc)),
     }
 }
@@ -139,17 +128,45 @@ fn positions_on<S: Alter>(
     alloc: Global,
     date: SettlementDate,
 ) -> Result<ListTable<PositionKey, Position>, RowFault>
+    ensures frame { ReadsSettled (state S.Store conn.old) (state S.Store conn.new) result }
     ensures value { let old = state S.Store conn.old in
         let new = state S.Store conn.new in
         OfOffice old new (IfOk result (λ table. table
         ≡ filter (λ e. is_eq (nat_cmp e.0.at.date date))
         (rows_under_keys positions old.now.trees))) }
-    ensures reading { SelectsOnly (state S.Store conn.old) (state S.Store conn.new) }
-    ensures safe { ReadsSafely (state S.Store conn.old) (state S.Store conn.new) result }
-    ensures mode { conn.old.in_transaction ≡ false → conn.new.in_transaction ≡ false }
 {
-    match select_positions_on(conn, alloc, &date) {
+    match select_under::<Positions, SettlementDate, S>(conn, alloc, &date) {
         Ok(rows) => table_of(rows),
         Err(fault) => Err(fault),
     }
+}
+
+/// The Settlement Periods of a date that were touched, in their order.
+fn select_touched_on<S: Alter>(
+    conn: &mut Connection<S>,
+    alloc: Global,
+    date: &SettlementDate,
+) -> Result<Vec<SettlementPeriod>, RowFault>
+    ensures frame { ReadsOffice (state S.Store conn.old) (state S.Store conn.new) result }
+    ensures value { let old = state S.Store conn.old in
+        let new = state S.Store conn.new in
+        OfOffice old new (IfOk result (λ found.
+        found.items ≡ filter (λ at. at.date == date.now) (touched_periods old.now.trees))) }
+{
+    let found = select_under::<Touched, SettlementDate, S>(conn, alloc, date)?;
+    periods_of(alloc, found.as_slice())
+}
+
+/// The Settlement Periods of rows that have no other columns.
+fn periods_of(
+    alloc: Global,
+    rows: &[(SettlementPeriod, NoColumns)],
+) -> Result<Vec<SettlementPeriod>, RowFault>
+    ensures { IfOk result (λ periods. periods.items ≡ map (λ e. e.0) rows.now) }
+{
+    let mut periods = Vec::with_capacity(alloc, rows.len())?;
+    for row in rows {
+        periods.push(row.0)?;
+    }
+    Ok(periods)
 }

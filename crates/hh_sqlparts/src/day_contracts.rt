@@ -1,20 +1,19 @@
 //! The contracts of a date, with the sellers and buyers of their references.
 
-ghost use Rattle.std.specs.Prelude.{◌≡◌, false, map, IfOk, OnOk};
+ghost use Rattle.std.specs.Prelude.{◌≡◌, map, IfOk, OnOk};
 ghost use Rattle.sqlite.specs.Held.{state};
 ghost use Rattle.hh_kept_rows.specs.DayRows.{HasContractsOn};
 ghost use Rattle.hh_sqlrows.specs.Contents.{registered_of};
-ghost use Rattle.hh_sqlrows.specs.Reads.{OfOffice};
-ghost use Rattle.hh_sqlparts.specs.Readings.{ReadsSafely, SelectsOnly, OfSettled};
+ghost use Rattle.hh_sqlrows.specs.Reads.{OfOffice, OfSettled, ReadsSettled};
 ghost use Rattle.hh_sqlparts.specs.steps.DayParts.{contracts_on, references_in, with_day_contracts};
 
-use crate::named_entries::references_under;
 use crate::tables::table_of;
 use hh_kept_rows::KeptRegister;
 use hh_names::Reference;
 use hh_num::Kwh;
 use hh_rows::ContractKey;
-use hh_sqlrows::{RowFault, select_contracts_on};
+use hh_sqlrows::tables::{Contracts, References};
+use hh_sqlrows::{RowFault, select_each, select_under};
 use hh_tables::ListTable;
 use hh_time::SettlementDate;
 use sqlite::{Alter, Connection};
@@ -27,13 +26,11 @@ pub fn select_contracts_of_day<S: Alter>(
     alloc: Global,
     date: SettlementDate,
 ) -> Result<KeptRegister, RowFault>
+    ensures frame { ReadsSettled (state S.Store conn.old) (state S.Store conn.new) result }
     ensures value { let old = state S.Store conn.old in
         let new = state S.Store conn.new in
         OfSettled old new (IfOk result (λ part.
         HasContractsOn date (registered_of old.now.trees) part)) }
-    ensures reading { SelectsOnly (state S.Store conn.old) (state S.Store conn.new) }
-    ensures safe { ReadsSafely (state S.Store conn.old) (state S.Store conn.new) result }
-    ensures mode { conn.old.in_transaction ≡ false → conn.new.in_transaction ≡ false }
 {
     let mut part = KeptRegister::new(alloc);
     select_contracts(conn, alloc, &mut part, date)?;
@@ -47,17 +44,15 @@ pub(crate) fn select_contracts<S: Alter>(
     part: &mut KeptRegister,
     date: SettlementDate,
 ) -> Result<(), RowFault>
+    ensures frame { ReadsSettled (state S.Store conn.old) (state S.Store conn.new) result }
     ensures value { let old = state S.Store conn.old in
         let new = state S.Store conn.new in
         OfSettled old new (OnOk result (part.new
         ≡ with_day_contracts date (registered_of old.now.trees) part.old)) }
-    ensures reading { SelectsOnly (state S.Store conn.old) (state S.Store conn.new) }
-    ensures safe { ReadsSafely (state S.Store conn.old) (state S.Store conn.new) result }
-    ensures mode { conn.old.in_transaction ≡ false → conn.new.in_transaction ≡ false }
 {
     part.contracts = volumes_on(conn, alloc, date)?;
     let named = references_in(alloc, part.contracts.rows())?;
-    part.references = table_of(references_under(conn, alloc, &named)?)?;
+    part.references = table_of(select_each::<References, S>(conn, alloc, &named)?)?;
     Ok(())
 }
 
@@ -67,15 +62,13 @@ fn volumes_on<S: Alter>(
     alloc: Global,
     date: SettlementDate,
 ) -> Result<ListTable<ContractKey, Kwh>, RowFault>
+    ensures frame { ReadsSettled (state S.Store conn.old) (state S.Store conn.new) result }
     ensures value { let old = state S.Store conn.old in
         let new = state S.Store conn.new in
         OfOffice old new (IfOk result (λ table.
         table ≡ contracts_on date (registered_of old.now.trees))) }
-    ensures reading { SelectsOnly (state S.Store conn.old) (state S.Store conn.new) }
-    ensures safe { ReadsSafely (state S.Store conn.old) (state S.Store conn.new) result }
-    ensures mode { conn.old.in_transaction ≡ false → conn.new.in_transaction ≡ false }
 {
-    match select_contracts_on(conn, alloc, &date) {
+    match select_under::<Contracts, SettlementDate, S>(conn, alloc, &date) {
         Ok(rows) => table_of(rows),
         Err(fault) => Err(fault),
     }

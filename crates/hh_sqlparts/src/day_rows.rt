@@ -1,20 +1,21 @@
 //! Everything from which a Settlement Day is settled.
 
-ghost use Rattle.std.specs.Prelude.{◌≡◌, false, IfOk, OnOk};
+ghost use Rattle.std.specs.Prelude.{◌≡◌, IfOk, OnOk};
 ghost use Rattle.sqlite.specs.Held.{state};
 ghost use Rattle.hh_tables.specs.Tables.{IsTable};
 ghost use Rattle.hh_rows.specs.Keys.{reallocation_key_cmp};
 ghost use Rattle.hh_kept_rows.specs.DayRows.{HasRowsOn};
 ghost use Rattle.hh_sqlrows.specs.Contents.{registered_of};
-ghost use Rattle.hh_sqlparts.specs.Readings.{ReadsSafely, SelectsOnly, OfSettled};
+ghost use Rattle.hh_sqlrows.specs.Reads.{OfSettled, ReadsSettled};
 ghost use Rattle.hh_sqlparts.specs.steps.DayParts.{with_registered, with_rows_of_units};
 
 use crate::day_contracts::select_contracts;
 use crate::day_units::{ids_on, unit_days};
-use crate::named_entries::{meters_under, reallocations_under};
 use crate::tables::{all_parties, all_units, table_of};
 use hh_kept_rows::KeptRegister;
-use hh_sqlrows::{RowFault, select_prices_on};
+use hh_names::UnitId;
+use hh_sqlrows::tables::{Meters, Prices, Reallocations};
+use hh_sqlrows::{RowFault, UnitDate, select_under, select_under_each};
 use hh_time::SettlementDate;
 use sqlite::{Alter, Connection};
 use std::alloc::Global;
@@ -27,13 +28,11 @@ pub fn select_day<S: Alter>(
     alloc: Global,
     date: SettlementDate,
 ) -> Result<KeptRegister, RowFault>
+    ensures frame { ReadsSettled (state S.Store conn.old) (state S.Store conn.new) result }
     ensures value { let old = state S.Store conn.old in
         let new = state S.Store conn.new in
         OfSettled old new (IfOk result (λ part.
         HasRowsOn date (registered_of old.now.trees) part)) }
-    ensures reading { SelectsOnly (state S.Store conn.old) (state S.Store conn.new) }
-    ensures safe { ReadsSafely (state S.Store conn.old) (state S.Store conn.new) result }
-    ensures mode { conn.old.in_transaction ≡ false → conn.new.in_transaction ≡ false }
 {
     let mut part = KeptRegister::new(alloc);
     select_contracts(conn, alloc, &mut part, date)?;
@@ -49,17 +48,15 @@ fn select_registered<S: Alter>(
     part: &mut KeptRegister,
     date: SettlementDate,
 ) -> Result<(), RowFault>
+    ensures frame { ReadsSettled (state S.Store conn.old) (state S.Store conn.new) result }
     ensures value { let old = state S.Store conn.old in
         let new = state S.Store conn.new in
         OfSettled old new (OnOk result (part.new
         ≡ with_registered date (registered_of old.now.trees) part.old)) }
-    ensures reading { SelectsOnly (state S.Store conn.old) (state S.Store conn.new) }
-    ensures safe { ReadsSafely (state S.Store conn.old) (state S.Store conn.new) result }
-    ensures mode { conn.old.in_transaction ≡ false → conn.new.in_transaction ≡ false }
 {
     part.parties = all_parties(conn, alloc)?;
     part.units = all_units(conn, alloc)?;
-    part.prices = table_of(select_prices_on(conn, alloc, &date)?)?;
+    part.prices = table_of(select_under::<Prices, SettlementDate, S>(conn, alloc, &date)?)?;
     Ok(())
 }
 
@@ -70,18 +67,18 @@ fn select_of_units<S: Alter>(
     part: &mut KeptRegister,
     date: SettlementDate,
 ) -> Result<(), RowFault>
+    ensures frame { ReadsSettled (state S.Store conn.old) (state S.Store conn.new) result }
     ensures value { let old = state S.Store conn.old in
         let new = state S.Store conn.new in
         OfSettled old new (OnOk result (part.new
         ≡ with_rows_of_units date (registered_of old.now.trees) part.old)) }
     ensures rises { OnOk result (IsTable reallocation_key_cmp part.new.reallocations) }
-    ensures reading { SelectsOnly (state S.Store conn.old) (state S.Store conn.new) }
-    ensures safe { ReadsSafely (state S.Store conn.old) (state S.Store conn.new) result }
-    ensures mode { conn.old.in_transaction ≡ false → conn.new.in_transaction ≡ false }
 {
     let units = ids_on(alloc, part.units.rows(), date)?;
     let days = unit_days(alloc, &units, date)?;
-    part.meters = table_of(meters_under(conn, alloc, &days)?)?;
-    part.reallocations = table_of(reallocations_under(conn, alloc, &units)?)?;
+    part.meters = table_of(select_under_each::<Meters, UnitDate, S>(conn, alloc, &days)?)?;
+    part.reallocations = table_of(select_under_each::<Reallocations, UnitId, S>(
+        conn, alloc, &units,
+    )?)?;
     Ok(())
 }

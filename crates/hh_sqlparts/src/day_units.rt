@@ -3,9 +3,9 @@
 ghost use Rattle.std.specs.Prelude.{◌≡◌, map, IfOk};
 ghost use Rattle.hh_sqlparts.specs.steps.DayParts.{ids_on, on_date};
 
-use crate::named_names::UnitDay;
 use hh_names::UnitId;
 use hh_rows::UnitRegistration;
+use hh_sqlrows::UnitDate;
 use hh_time::SettlementDate;
 use std::alloc::{AllocError, Global};
 
@@ -31,11 +31,11 @@ pub(crate) fn unit_days(
     alloc: Global,
     units: &[UnitId],
     date: SettlementDate,
-) -> Result<Vec<UnitDay>, AllocError>
+) -> Result<Vec<UnitDate>, AllocError>
     ensures { IfOk result (λ days. days.items ≡ map (on_date date) units.now) }
 {
     units
         .iter()
-        .map(|unit| UnitDay { unit: *unit, date })
+        .map(|unit| UnitDate { unit: *unit, date })
         .collect(alloc)
 }

@@ -5,8 +5,7 @@
 //! Settlement Day settles by that of `select_day` as by all. `select_contracts_of_day` gives the
 //! contracts of a date alone, `select_day_beside` what is kept beside the rows of a date, and
 //! `select_positions_after` the positions that rows change. `select_beside_anew` gives what has to
-//! be kept beside tables that have nothing beside them so far. Each call only reads (`reading`,
-//! `safe`).
+//! be kept beside tables that have nothing beside them so far. Each call only reads (`frame`).
 #![tactic(auto)]
 
 mod beside_anew;
@@ -17,7 +16,6 @@ mod day_rows;
 mod day_units;
 mod moved_positions;
 mod named;
-mod named_entries;
 mod named_names;
 mod named_tables;
 mod tables;

@@ -1,23 +1,23 @@
 //! The volumes and the positions that contract rows change, as they are before these rows.
 
-ghost use Rattle.std.specs.Prelude.{◌≡◌, [], false, All, IfOk, OnOk};
+ghost use Rattle.std.specs.Prelude.{◌≡◌, [], All, IfOk, OnOk};
 ghost use Rattle.hh_tables.specs.Tables.{put_all};
 ghost use Rattle.hh_rows.specs.Keys.{contract_key_cmp};
 ghost use Rattle.hh_rules.specs.Positions.{position_key, position_key_cmp};
 ghost use Rattle.sqlite.specs.Held.{state};
 ghost use Rattle.hh_sqlrows.specs.Forms.{rows_under_keys};
 ghost use Rattle.hh_sqlrows.specs.OfficeTables.{contracts, positions};
-ghost use Rattle.hh_sqlparts.specs.Readings.{ReadsSafely, SelectsOnly, OfSettled};
+ghost use Rattle.hh_sqlrows.specs.Reads.{OfSettled, ReadsSettled};
 ghost use Rattle.hh_sqlparts.specs.steps.Moved.{buyer_of, seller_of, HasBoth, ServesPositions};
 ghost use Rattle.hh_sqlparts.specs.steps.Named.{volume_key_of, FindsNamed, IsAmong};
 
-use crate::named_entries::{contracts_under, positions_under};
 use crate::named_names::{names_in, names_of};
 use hh_names::Account;
 use hh_num::Kwh;
 use hh_rows::{ContractKey, ContractRow, Row};
 use hh_rules::{Position, PositionKey, Positions};
-use hh_sqlrows::RowFault;
+use hh_sqlrows::tables::Contracts;
+use hh_sqlrows::{RowFault, select_each, tables};
 use hh_tables::TreeTable;
 use sqlite::{Alter, Connection};
 use std::alloc::{AllocError, Global};
@@ -29,16 +29,14 @@ pub(crate) fn select_volumes_named<S: Alter>(
     alloc: Global,
     rows: &[Row],
 ) -> Result<TreeTable<ContractKey, Kwh>, RowFault>
+    ensures frame { ReadsSettled (state S.Store conn.old) (state S.Store conn.new) result }
     ensures value { let old = state S.Store conn.old in
         let new = state S.Store conn.new in
         OfSettled old new (IfOk result (FindsNamed contract_key_cmp volume_key_of rows.now
         (rows_under_keys contracts old.now.trees))) }
-    ensures reading { SelectsOnly (state S.Store conn.old) (state S.Store conn.new) }
-    ensures safe { ReadsSafely (state S.Store conn.old) (state S.Store conn.new) result }
-    ensures mode { conn.old.in_transaction ≡ false → conn.new.in_transaction ≡ false }
 {
     let names = names_in(alloc, rows)?;
-    let found = contracts_under(conn, alloc, &names)?;
+    let found = select_each::<Contracts, S>(conn, alloc, &names)?;
     Ok(volumes_of(alloc, &found)?)
 }
 
@@ -48,16 +46,14 @@ pub(crate) fn select_positions_named<S: Alter>(
     alloc: Global,
     rows: &[Row],
 ) -> Result<Positions, RowFault>
+    ensures frame { ReadsSettled (state S.Store conn.old) (state S.Store conn.new) result }
     ensures value { let old = state S.Store conn.old in
         let new = state S.Store conn.new in
         OfSettled old new (IfOk result (ServesPositions rows.now
         (rows_under_keys positions old.now.trees))) }
-    ensures reading { SelectsOnly (state S.Store conn.old) (state S.Store conn.new) }
-    ensures safe { ReadsSafely (state S.Store conn.old) (state S.Store conn.new) result }
-    ensures mode { conn.old.in_transaction ≡ false → conn.new.in_transaction ≡ false }
 {
     let names = position_keys_in(alloc, rows)?;
-    let found = positions_under(conn, alloc, &names)?;
+    let found = select_each::<tables::Positions, S>(conn, alloc, &names)?;
     Ok(positions_of(alloc, &found)?)
 }
 

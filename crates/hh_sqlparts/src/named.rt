@@ -1,10 +1,10 @@
 //! The part of what is registered and in force by which rows are judged.
 
-ghost use Rattle.std.specs.Prelude.{◌≡◌, false, IfOk};
+ghost use Rattle.std.specs.Prelude.{◌≡◌, IfOk};
 ghost use Rattle.sqlite.specs.Held.{state};
 ghost use Rattle.hh_sqlrows.specs.Contents.{registered_of};
 ghost use Rattle.hh_sqlparts.specs.Named.{JudgesFor};
-ghost use Rattle.hh_sqlparts.specs.Readings.{ReadsSafely, SelectsOnly, OfSettled};
+ghost use Rattle.hh_sqlrows.specs.Reads.{OfSettled, ReadsSettled};
 
 use crate::named_tables::{
     select_contracts_named, select_meters_named, select_prices_named, select_reallocations_named,
@@ -25,12 +25,10 @@ pub fn select_named<S: Alter>(
     alloc: Global,
     rows: &[Row],
 ) -> Result<KeptRegister, RowFault>
+    ensures frame { ReadsSettled (state S.Store conn.old) (state S.Store conn.new) result }
     ensures value { let old = state S.Store conn.old in
         let new = state S.Store conn.new in
         OfSettled old new (IfOk result (JudgesFor rows.now (registered_of old.now.trees))) }
-    ensures reading { SelectsOnly (state S.Store conn.old) (state S.Store conn.new) }
-    ensures safe { ReadsSafely (state S.Store conn.old) (state S.Store conn.new) result }
-    ensures mode { conn.old.in_transaction ≡ false → conn.new.in_transaction ≡ false }
 {
     let parties = all_parties(conn, alloc)?;
     let units = all_units(conn, alloc)?;

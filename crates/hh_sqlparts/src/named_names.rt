@@ -6,16 +6,10 @@ ghost use Rattle.hh_sqlparts.specs.steps.Named.{IsAmong, date_of, reference_of, 
 
 use hh_names::{Reference, UnitId};
 use hh_rows::{ContractKey, Row};
+use hh_sqlrows::UnitDate;
 use hh_time::SettlementDate;
 use std::alloc::{AllocError, Global};
 use std::collections::BTreeSet;
-
-/// A unit on a date. Ordered by the bytes of the unit's id, then by date.
-#[derive(Clone, Copy, Debug, PartialEq, Eq, PartialOrd, Ord)]
-pub struct UnitDay {
-    pub unit: UnitId,
-    pub date: SettlementDate,
-}
 
 /// Something that a row can name.
 pub(crate) trait Name: Ord + Copy {
@@ -52,12 +46,12 @@ impl Name for ContractKey {
 }
 
 /// The unit and the date of a reading.
-impl Name for UnitDay {
+impl Name for UnitDate {
     ghost name_of = { unit_day_of };
 
-    fn of_row(row: &Row) -> Option<UnitDay> {
+    fn of_row(row: &Row) -> Option<UnitDate> {
         match row {
-            Row::Meter(row) => Some(UnitDay {
+            Row::Meter(row) => Some(UnitDate {
                 unit: row.key.unit,
                 date: row.key.at.date,
             }),

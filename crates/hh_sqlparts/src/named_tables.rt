@@ -1,23 +1,22 @@
 //! What rows are judged by, table by table.
 
-ghost use Rattle.std.specs.Prelude.{◌≡◌, false, IfOk};
+ghost use Rattle.std.specs.Prelude.{◌≡◌, IfOk};
 ghost use Rattle.hh_names.specs.Accounts.{bytes_cmp};
 ghost use Rattle.hh_rows.specs.Keys.{contract_key_cmp, settlement_period_cmp, unit_period_cmp};
 ghost use Rattle.sqlite.specs.Held.{state};
 ghost use Rattle.hh_sqlrows.specs.Forms.{rows_under_keys};
 ghost use Rattle.hh_sqlrows.specs.OfficeTables.{contracts, meters, period_prices, reallocations, references};
-ghost use Rattle.hh_sqlparts.specs.Readings.{ReadsSafely, SelectsOnly, OfSettled};
+ghost use Rattle.hh_sqlrows.specs.Reads.{OfSettled, ReadsSettled};
 ghost use Rattle.hh_sqlparts.specs.steps.Named.{price_key_of, reading_key_of, reference_of, volume_key_of, FindsNamed, HasReallocated};
 
-use crate::named_entries::{
-    contracts_under, meters_under, prices_under, reallocations_under, references_under,
-};
 use crate::named_names::names_in;
-use hh_names::{Counterparties, Reading, Reallocation, Reference};
+use hh_names::{Counterparties, Reading, Reallocation, Reference, UnitId};
 use hh_num::{Kwh, Price};
 use hh_rows::{ContractKey, ReallocationKey, Row, SettlementPeriod, UnitPeriod};
-use hh_sqlrows::RowFault;
+use hh_sqlrows::tables::{Contracts, Meters, Prices, Reallocations, References};
+use hh_sqlrows::{RowFault, UnitDate, select_each, select_under_each};
 use hh_tables::ListTable;
+use hh_time::SettlementDate;
 use sqlite::{Alter, Connection};
 use std::alloc::Global;
 
@@ -27,16 +26,14 @@ pub(crate) fn select_references_named<S: Alter>(
     alloc: Global,
     rows: &[Row],
 ) -> Result<ListTable<Reference, Counterparties>, RowFault>
+    ensures frame { ReadsSettled (state S.Store conn.old) (state S.Store conn.new) result }
     ensures value { let old = state S.Store conn.old in
         let new = state S.Store conn.new in
         OfSettled old new (IfOk result (FindsNamed bytes_cmp reference_of rows.now
         (rows_under_keys references old.now.trees))) }
-    ensures reading { SelectsOnly (state S.Store conn.old) (state S.Store conn.new) }
-    ensures safe { ReadsSafely (state S.Store conn.old) (state S.Store conn.new) result }
-    ensures mode { conn.old.in_transaction ≡ false → conn.new.in_transaction ≡ false }
 {
     let names = names_in(alloc, rows)?;
-    let found = references_under(conn, alloc, &names)?;
+    let found = select_each::<References, S>(conn, alloc, &names)?;
     Ok(ListTable::new(alloc).with_rows(alloc, found)?)
 }
 
@@ -46,16 +43,14 @@ pub(crate) fn select_contracts_named<S: Alter>(
     alloc: Global,
     rows: &[Row],
 ) -> Result<ListTable<ContractKey, Kwh>, RowFault>
+    ensures frame { ReadsSettled (state S.Store conn.old) (state S.Store conn.new) result }
     ensures value { let old = state S.Store conn.old in
         let new = state S.Store conn.new in
         OfSettled old new (IfOk result (FindsNamed contract_key_cmp volume_key_of rows.now
         (rows_under_keys contracts old.now.trees))) }
-    ensures reading { SelectsOnly (state S.Store conn.old) (state S.Store conn.new) }
-    ensures safe { ReadsSafely (state S.Store conn.old) (state S.Store conn.new) result }
-    ensures mode { conn.old.in_transaction ≡ false → conn.new.in_transaction ≡ false }
 {
     let names = names_in(alloc, rows)?;
-    let found = contracts_under(conn, alloc, &names)?;
+    let found = select_each::<Contracts, S>(conn, alloc, &names)?;
     Ok(ListTable::new(alloc).with_rows(alloc, found)?)
 }
 
@@ -65,16 +60,14 @@ pub(crate) fn select_meters_named<S: Alter>(
     alloc: Global,
     rows: &[Row],
 ) -> Result<ListTable<UnitPeriod, Reading>, RowFault>
+    ensures frame { ReadsSettled (state S.Store conn.old) (state S.Store conn.new) result }
     ensures value { let old = state S.Store conn.old in
         let new = state S.Store conn.new in
         OfSettled old new (IfOk result (FindsNamed unit_period_cmp reading_key_of rows.now
         (rows_under_keys meters old.now.trees))) }
-    ensures reading { SelectsOnly (state S.Store conn.old) (state S.Store conn.new) }
-    ensures safe { ReadsSafely (state S.Store conn.old) (state S.Store conn.new) result }
-    ensures mode { conn.old.in_transaction ≡ false → conn.new.in_transaction ≡ false }
 {
     let names = names_in(alloc, rows)?;
-    let found = meters_under(conn, alloc, &names)?;
+    let found = select_under_each::<Meters, UnitDate, S>(conn, alloc, &names)?;
     Ok(ListTable::new(alloc).with_rows(alloc, found)?)
 }
 
@@ -84,16 +77,14 @@ pub(crate) fn select_prices_named<S: Alter>(
     alloc: Global,
     rows: &[Row],
 ) -> Result<ListTable<SettlementPeriod, Price>, RowFault>
+    ensures frame { ReadsSettled (state S.Store conn.old) (state S.Store conn.new) result }
     ensures value { let old = state S.Store conn.old in
         let new = state S.Store conn.new in
         OfSettled old new (IfOk result (FindsNamed settlement_period_cmp price_key_of rows.now
         (rows_under_keys period_prices old.now.trees))) }
-    ensures reading { SelectsOnly (state S.Store conn.old) (state S.Store conn.new) }
-    ensures safe { ReadsSafely (state S.Store conn.old) (state S.Store conn.new) result }
-    ensures mode { conn.old.in_transaction ≡ false → conn.new.in_transaction ≡ false }
 {
     let names = names_in(alloc, rows)?;
-    let found = prices_under(conn, alloc, &names)?;
+    let found = select_under_each::<Prices, SettlementDate, S>(conn, alloc, &names)?;
     Ok(ListTable::new(alloc).with_rows(alloc, found)?)
 }
 
@@ -103,15 +94,13 @@ pub(crate) fn select_reallocations_named<S: Alter>(
     alloc: Global,
     rows: &[Row],
 ) -> Result<ListTable<ReallocationKey, Reallocation>, RowFault>
+    ensures frame { ReadsSettled (state S.Store conn.old) (state S.Store conn.new) result }
     ensures value { let old = state S.Store conn.old in
         let new = state S.Store conn.new in
         OfSettled old new (IfOk result (HasReallocated rows.now
         (rows_under_keys reallocations old.now.trees))) }
-    ensures reading { SelectsOnly (state S.Store conn.old) (state S.Store conn.new) }
-    ensures safe { ReadsSafely (state S.Store conn.old) (state S.Store conn.new) result }
-    ensures mode { conn.old.in_transaction ≡ false → conn.new.in_transaction ≡ false }
 {
     let names = names_in(alloc, rows)?;
-    let found = reallocations_under(conn, alloc, &names)?;
+    let found = select_under_each::<Reallocations, UnitId, S>(conn, alloc, &names)?;
     Ok(ListTable::new(alloc).with_rows(alloc, found)?)
 }

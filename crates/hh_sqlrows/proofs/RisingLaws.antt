@@ -14,7 +14,7 @@ use Rattle.hh_runs.specs.declared.run_key.RunKey.{RunKey}
 use Rattle.hh_keyed_rows.specs.run_keys.ResultKey.{ResultKey}
 use Rattle.hh_keyed_rows.specs.Content.{result_key_cmp}
 use Rattle.hh_keyed_rows.specs.Runs.{run_key_cmp}
-use Rattle.hh_keyed_rows.proofs.KeyLaws.{exact_run_keys, run_key_total}
+use Rattle.hh_keyed_rows.proofs.KeyLaws.{exact_run_keys, result_key_total, run_key_total}
 use Rattle.hh_keyed_rows.specs.KeyedRows.{stored_entry}
 use Rattle.hh_keyed_rows.specs.declared.amounts.AccountAmounts.{AccountAmounts}
 use Rattle.hh_keyed_rows.proofs.PlaceLaws.{is_Equal}
@@ -22,7 +22,6 @@ use Rattle.hh_keyed_rows.proofs.SelectLaws.{order_rises}
 use Rattle.hh_sqlrows.specs.Contents.{period_row, rows_of_run}
 use Rattle.hh_sqlrows.specs.Forms.{rows_under_keys}
 use Rattle.hh_sqlrows.specs.OfficeTables.{results}
-use Rattle.hh_sqlrows.proofs.FormFacts.{results_form}
 
 -- numbers that rise along a list do not fall between two of its places
 not_falling : {X : Type 0} (n : X → ℕ) (xs : List X) → IsAscending (λ a b. n a ≤ n b) xs → IsNonDecreasingBy n xs
@@ -74,6 +73,6 @@ module _ (run : RunKey) where
   pub run_rises : (trees : Trees) → IsNonDecreasingBy (λ e. e.0) (map period_row (rows_of_run run trees))
   run_rises trees =
       let rows : List (ResultKey × AccountAmounts) = rows_under_keys results trees in
-      let up = ascending-filter (λ a b. result_key_cmp a.0 b.0 ≡ Less) of_run rows (order_rises {V = AccountAmounts} result_key_cmp results_form.total (filter_map (stored_entry results.key results.value) (trees results.table.tree))) in
+      let up = ascending-filter (λ a b. result_key_cmp a.0 b.0 ≡ Less) of_run rows (order_rises {V = AccountAmounts} result_key_cmp result_key_total (filter_map (stored_entry results.key results.value) (trees results.table.tree))) in
       not_falling (λ e. e.0) (map period_row (rows_of_run run trees))
       (ascending-map (λ a b. a.0 ≤ b.0) period_row (rows_of_run run trees) (all_up (rows_of_run run trees) (all_pass of_run rows) up))

@@ -1,100 +1,92 @@
--- What each statement that makes a table means after those before it.
-use Rattle.std.proofs.Common.{◌≡◌, ◌++◌, ◌+◌, ◌<◌, ℕ, zero, suc, List, [], ◌∷◌, slice_index_or, Ok, false, arith, refl}
+-- The texts that make the tables of an office, and what they mean under the schema of the tables before them.
+use Rattle.std.proofs.Common.{◌≡◌, ◌<◌, ◌+◌, ℕ, zero, suc, [], arith, refl, slice_index_or}
 use Rattle.sqlite_schema.specs.declared.schema.Table.{Table}
-use Rattle.sqlite_schema.specs.declared.command.Command.TheVariants.{CreateTable}
-use Rattle.sqlite_resolve.specs.Compile.{table_defined_by}
-use Rattle.sqlite_catalog.specs.Change.{created, next_tree}
-use Rattle.sqlite_tied.specs.Compute.{everything}
-use Rattle.sqlite.specs.Does.{lacks_sequence}
 use Rattle.sqlite.specs.Listing.{understood}
-use Rattle.sqlite.proofs.Callers.{IsPlain, command_of, statement_of}
-use Rattle.hh_sqlrows.specs.OfficeSchema.{office, settings_table, parties_table, units_table, meters_table, prices_table, refs_table, contracts_table, reallocations_table, files_table, runs_table, results_table, credits_table, postings_table, positions_table, touched_table, marks_table}
+use Rattle.sqlite_tied.specs.Compute.{everything}
+use Rattle.hh_sqltables.specs.Texts.{Defines}
+use Rattle.hh_sqlrows.specs.OfficeSchema.{office, office_tables, settings_table}
 use Rattle.hh_sqlrows.specs.Making.{schema_up_to}
-use Rattle.hh_sqlrows.specs.steps.MakingTexts.{texts, settings_creation, parties_creation, units_creation, meters_creation, prices_creation, refs_creation, contracts_creation, reallocations_creation, files_creation, runs_creation, results_creation, credits_creation, postings_creation, positions_creation, touched_creation, marks_creation}
+use Rattle.hh_sqlrows.specs.steps.MakingTexts.{texts}
 
--- the statement makes a table after `at` other tables
-pub record Defines (at : ℕ) (sql : List ℕ) : Type 0 where
-  pub table : Table
-  pub command : command_of (understood (schema_up_to at) sql) ≡ CreateTable
-  pub whole : statement_of sql (understood (schema_up_to at) sql) ≡ sql
-  pub plain : IsPlain (understood (schema_up_to at) sql)
-  pub defined : table_defined_by sql ≡ Ok table
-  pub makes : created (schema_up_to at) table ≡ schema_up_to (at + 1)
-  pub extends : (schema_up_to (at + 1)).tables ≡ (schema_up_to at).tables ++ record table { tree = next_tree (schema_up_to at) } ∷ []
-  pub uncounted : lacks_sequence (schema_up_to (at + 1)) ≡ false
+-- a table as its text says it, without a tree
+abbrev pub table_at : ℕ → Table
+table_at at = record (slice_index_or office_tables at settings_table) { tree = 0 }
 
-settings_is : Defines 0 settings_creation
+abbrev Facts : ℕ → Type 0
+Facts at = Defines (schema_up_to at) (schema_up_to (at + 1)) (table_at at) (slice_index_or texts at [])
+
+settings_is : Facts 0
 unfolding understood everything
-settings_is = record { table = record settings_table { tree = 0 }; command = refl; whole = refl; plain = (refl, refl); defined = refl; makes = refl; extends = refl; uncounted = refl }
+settings_is = record { command = refl; whole = refl; plain = (refl, refl); defined = refl; makes = refl; extends = refl; uncounted = refl }
 
-parties_is : Defines 1 parties_creation
+parties_is : Facts 1
 unfolding understood everything
-parties_is = record { table = record parties_table { tree = 0 }; command = refl; whole = refl; plain = (refl, refl); defined = refl; makes = refl; extends = refl; uncounted = refl }
+parties_is = record { command = refl; whole = refl; plain = (refl, refl); defined = refl; makes = refl; extends = refl; uncounted = refl }
 
-units_is : Defines 2 units_creation
+units_is : Facts 2
 unfolding understood everything
-units_is = record { table = record units_table { tree = 0 }; command = refl; whole = refl; plain = (refl, refl); defined = refl; makes = refl; extends = refl; uncounted = refl }
+units_is = record { command = refl; whole = refl; plain = (refl, refl); defined = refl; makes = refl; extends = refl; uncounted = refl }
 
-meters_is : Defines 3 meters_creation
+meters_is : Facts 3
 unfolding understood everything
-meters_is = record { table = record meters_table { tree = 0 }; command = refl; whole = refl; plain = (refl, refl); defined = refl; makes = refl; extends = refl; uncounted = refl }
+meters_is = record { command = refl; whole = refl; plain = (refl, refl); defined = refl; makes = refl; extends = refl; uncounted = refl }
 
-prices_is : Defines 4 prices_creation
+prices_is : Facts 4
 unfolding understood everything
-prices_is = record { table = record prices_table { tree = 0 }; command = refl; whole = refl; plain = (refl, refl); defined = refl; makes = refl; extends = refl; uncounted = refl }
+prices_is = record { command = refl; whole = refl; plain = (refl, refl); defined = refl; makes = refl; extends = refl; uncounted = refl }
 
-refs_is : Defines 5 refs_creation
+references_is : Facts 5
 unfolding understood everything
-refs_is = record { table = record refs_table { tree = 0 }; command = refl; whole = refl; plain = (refl, refl); defined = refl; makes = refl; extends = refl; uncounted = refl }
+references_is = record { command = refl; whole = refl; plain = (refl, refl); defined = refl; makes = refl; extends = refl; uncounted = refl }
 
-contracts_is : Defines 6 contracts_creation
+contracts_is : Facts 6
 unfolding understood everything
-contracts_is = record { table = record contracts_table { tree = 0 }; command = refl; whole = refl; plain = (refl, refl); defined = refl; makes = refl; extends = refl; uncounted = refl }
+contracts_is = record { command = refl; whole = refl; plain = (refl, refl); defined = refl; makes = refl; extends = refl; uncounted = refl }
 
-reallocations_is : Defines 7 reallocations_creation
+reallocations_is : Facts 7
 unfolding understood everything
-reallocations_is = record { table = record reallocations_table { tree = 0 }; command = refl; whole = refl; plain = (refl, refl); defined = refl; makes = refl; extends = refl; uncounted = refl }
+reallocations_is = record { command = refl; whole = refl; plain = (refl, refl); defined = refl; makes = refl; extends = refl; uncounted = refl }
 
-files_is : Defines 8 files_creation
+files_is : Facts 8
 unfolding understood everything
-files_is = record { table = record files_table { tree = 0 }; command = refl; whole = refl; plain = (refl, refl); defined = refl; makes = refl; extends = refl; uncounted = refl }
+files_is = record { command = refl; whole = refl; plain = (refl, refl); defined = refl; makes = refl; extends = refl; uncounted = refl }
 
-runs_is : Defines 9 runs_creation
+runs_is : Facts 9
 unfolding understood everything
-runs_is = record { table = record runs_table { tree = 0 }; command = refl; whole = refl; plain = (refl, refl); defined = refl; makes = refl; extends = refl; uncounted = refl }
+runs_is = record { command = refl; whole = refl; plain = (refl, refl); defined = refl; makes = refl; extends = refl; uncounted = refl }
 
-results_is : Defines 10 results_creation
+results_is : Facts 10
 unfolding understood everything
-results_is = record { table = record results_table { tree = 0 }; command = refl; whole = refl; plain = (refl, refl); defined = refl; makes = refl; extends = refl; uncounted = refl }
+results_is = record { command = refl; whole = refl; plain = (refl, refl); defined = refl; makes = refl; extends = refl; uncounted = refl }
 
-credits_is : Defines 11 credits_creation
+credits_is : Facts 11
 unfolding understood everything
-credits_is = record { table = record credits_table { tree = 0 }; command = refl; whole = refl; plain = (refl, refl); defined = refl; makes = refl; extends = refl; uncounted = refl }
+credits_is = record { command = refl; whole = refl; plain = (refl, refl); defined = refl; makes = refl; extends = refl; uncounted = refl }
 
-postings_is : Defines 12 postings_creation
+postings_is : Facts 12
 unfolding understood everything
-postings_is = record { table = record postings_table { tree = 0 }; command = refl; whole = refl; plain = (refl, refl); defined = refl; makes = refl; extends = refl; uncounted = refl }
+postings_is = record { command = refl; whole = refl; plain = (refl, refl); defined = refl; makes = refl; extends = refl; uncounted = refl }
 
-positions_is : Defines 13 positions_creation
+positions_is : Facts 13
 unfolding understood everything
-positions_is = record { table = record positions_table { tree = 0 }; command = refl; whole = refl; plain = (refl, refl); defined = refl; makes = refl; extends = refl; uncounted = refl }
+positions_is = record { command = refl; whole = refl; plain = (refl, refl); defined = refl; makes = refl; extends = refl; uncounted = refl }
 
-touched_is : Defines 14 touched_creation
+touched_is : Facts 14
 unfolding understood everything
-touched_is = record { table = record touched_table { tree = 0 }; command = refl; whole = refl; plain = (refl, refl); defined = refl; makes = refl; extends = refl; uncounted = refl }
+touched_is = record { command = refl; whole = refl; plain = (refl, refl); defined = refl; makes = refl; extends = refl; uncounted = refl }
 
-marks_is : Defines 15 marks_creation
+marks_is : Facts 15
 unfolding understood everything
-marks_is = record { table = record marks_table { tree = 0 }; command = refl; whole = refl; plain = (refl, refl); defined = refl; makes = refl; extends = refl; uncounted = refl }
+marks_is = record { command = refl; whole = refl; plain = (refl, refl); defined = refl; makes = refl; extends = refl; uncounted = refl }
 
 -- each statement makes its table after those before it
-pub defines : (at : ℕ) → at < 16 → Defines at (slice_index_or texts at [])
+pub defines : (at : ℕ) → at < 16 → Facts at
 defines zero h = settings_is
 defines (suc zero) h = parties_is
 defines (suc (suc zero)) h = units_is
 defines (suc (suc (suc zero))) h = meters_is
 defines (suc (suc (suc (suc zero)))) h = prices_is
-defines (suc (suc (suc (suc (suc zero))))) h = refs_is
+defines (suc (suc (suc (suc (suc zero))))) h = references_is
 defines (suc (suc (suc (suc (suc (suc zero)))))) h = contracts_is
 defines (suc (suc (suc (suc (suc (suc (suc zero))))))) h = reallocations_is
 defines (suc (suc (suc (suc (suc (suc (suc (suc zero)))))))) h = files_is

@@ -1,39 +1,24 @@
 -- The content that the tables of an office's database have, and what is kept beside it.
-use Rattle.std.specs.Prelude.{ℕ, ℤ, List, filter, map, Bool, true, false, ◌||◌, not, Option, unwrap_or}
+use Rattle.std.specs.Prelude.{List, filter, map, Bool, true, false, ◌||◌, not, Option, unwrap_or}
 use Rattle.std.specs.FinMap.{find}
 use Rattle.std.specs.Ordering.{is_eq}
 use Rattle.sqlite_trees.specs.Tree.{Trees}
-use Rattle.hh_names.specs.declared.account.Account.{Account}
 use Rattle.hh_rows.specs.declared.settings.Settings.{Settings}
 use Rattle.hh_rows.specs.declared.settlement_period.SettlementPeriod.{SettlementPeriod}
-use Rattle.hh_reports.specs.result.AccountRow.{AccountRow}
 use Rattle.hh_runs.specs.declared.run_key.RunKey.{RunKey}
 use Rattle.hh_keyed_rows.specs.Runs.{run_key_cmp}
-use Rattle.hh_keyed_rows.specs.run_keys.PostingKey.{PostingKey}
 use Rattle.hh_keyed_rows.specs.run_keys.ResultKey.{ResultKey}
 use Rattle.hh_keyed_rows.specs.Content.{Content}
 use Rattle.hh_keyed_rows.specs.Beside.{Beside, agrees}
 use Rattle.hh_keyed_rows.specs.declared.amounts.AccountAmounts.{AccountAmounts}
-use Rattle.hh_keyed_rows.specs.Values.{account_row_of}
 use Rattle.hh_keyed_rows.specs.History.{Registered}
-use Rattle.hh_sqlrows.specs.Forms.{rows_under_keys}
+use Rattle.hh_sqltables.specs.Forms.{rows_under_keys}
+pub use Rattle.hh_sqltables.specs.Reported.{period_row, posted_amount, result_of}
 use Rattle.hh_sqlrows.specs.OfficeTables.{contracts, credits, files, marks, meters, one_row_cmp, parties, period_prices, positions, postings, reallocations, references, results, runs, touched, units}
-
--- an account's row of a run with its key, from the amounts that are stored under the key
-abbrev pub result_of : ResultKey × AccountAmounts → ResultKey × AccountRow
-result_of e = (e.0, account_row_of e.0.account e.1)
 
 -- what the accounts have in the Settlement Periods of a run, by period, then by account
 abbrev pub rows_of_run : RunKey → Trees → List (ResultKey × AccountAmounts)
 rows_of_run run trees = filter (λ e. is_eq (run_key_cmp e.0.run run)) (rows_under_keys results trees)
-
--- an account's row of a run with its Settlement Period
-abbrev pub period_row : ResultKey × AccountAmounts → ℕ × AccountRow
-period_row e = (e.0.period, (result_of e).1)
-
--- a posting's amount under its account
-abbrev pub posted_amount : PostingKey × ℤ → Account × ℤ
-posted_amount e = (e.0.account, e.1)
 
 -- the Settlement Periods that were touched, in their order
 abbrev pub touched_periods : Trees → List SettlementPeriod
@@ -72,11 +57,11 @@ beside_in trees = record { positions = rows_under_keys positions trees; touched 
 abbrev pub mark_in : Trees → Option Bool
 mark_in trees = find one_row_cmp (record {}) (rows_under_keys marks trees)
 
-module _ (settings : Settings) (trees : Trees) where
-  -- What is kept beside the content agrees with it. This is also so if the mark doesn't say that anything is kept.
-  unfoldable pub is_in_step_in : Bool
-  is_in_step_in = not (unwrap_or (mark_in trees) false) || agrees (content_of settings trees) (beside_in trees)
+-- What is kept beside a content agrees with it. This is also so if the mark doesn't say that anything is kept.
+unfoldable pub is_in_step_in : Content → Trees → Bool
+is_in_step_in content trees = not (unwrap_or (mark_in trees) false) || agrees content (beside_in trees)
 
-  -- the content with these settings, and whether what is kept beside it agrees with it
-  abbrev pub stored_content : Content
-  stored_content = record (content_of settings trees) { is_in_step = is_in_step_in }
+-- the content with these settings, and whether what is kept beside it agrees with it
+abbrev pub stored_content : Settings → Trees → Content
+stored_content settings trees =
+    let content = content_of settings trees in record content { is_in_step = is_in_step_in content trees }

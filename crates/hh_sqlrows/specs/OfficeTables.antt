@@ -126,10 +126,6 @@ positions = record { at = 13; table = positions_table; order = position_key_cmp;
 abbrev pub touched : TableForm SettlementPeriod NoColumns
 touched = record { at = 14; table = touched_table; order = settlement_period_cmp; key = settlement_period_columns; value = no_columns }
 
--- a Settlement Period as a row without other columns
-abbrev pub touched_entry : SettlementPeriod → SettlementPeriod × NoColumns
-touched_entry at = (at, record {})
-
 abbrev pub marks : TableForm OneRow Bool
 marks = record { at = 15; table = marks_table; order = one_row_cmp; key = one_row_column; value = mark_column }
 

@@ -1,4 +1,2 @@
-pub mod Answers
+pub mod Forms
 pub mod MakingTexts
-pub mod Streams
-pub mod Trying

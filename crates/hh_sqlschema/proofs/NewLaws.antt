@@ -9,19 +9,20 @@ use Rattle.sqlite_trees.specs.Tree.{Trees}
 use Rattle.sqlite.specs.Effect.{Database, IsDatabase}
 use Rattle.hh_rows.specs.declared.settings.Settings.{Settings}
 use Rattle.hh_sqlrows.specs.KeyedRows.{stored_entry, table_in}
-use Rattle.hh_sqlrows.specs.Forms.{TableForm, Puts, rows_under_keys}
-use Rattle.hh_sqlrows.specs.Making.{AreEmpty, IsMadeUpTo}
-use Rattle.hh_sqlrows.specs.Office.{IsEmptyOffice}
+use Rattle.hh_sqlrows.specs.Forms.{TableForm, rows_under_keys}
+use Rattle.hh_sqlrows.specs.steps.Forms.{Puts}
+use Rattle.hh_sqlrows.specs.Making.{IsMadeUpTo}
+use Rattle.hh_sqlrows.specs.Office.{AreEmpty, IsEmptyOffice}
 use Rattle.hh_sqlrows.specs.OfficeSchema.{nothing, office}
 use Rattle.hh_sqlrows.specs.OfficeTables.{contracts, credits, files, marks, meters, one_row_cmp, parties, period_prices, positions, postings, reallocations, references, results, runs, settings, touched, units}
 use Rattle.hh_sqlrows.specs.Beside.{agrees}
 use Rattle.hh_sqlrows.specs.Content.{Content, empty_content}
 use Rattle.hh_sqlrows.specs.Contents.{beside_in, content_of, is_in_step_in, mark_in, result_of}
-use Rattle.hh_sqlschema.specs.Holds.{IsNewOffice}
+use Rattle.hh_sqlrows.specs.Holds.{IsNewOffice}
 
 -- in an empty database no table is made yet
 pub none_made : (db : Database) → db.schema ≡ nothing → IsDatabase db → IsMadeUpTo 0 db
-none_made db is sound = record { schema = is; sound = sound; empty = subst (λ (s : Schema). AreEmpty s.tables db.trees) (sym is) tt }
+none_made db is sound = record { is_office = record { schema = is; sound = sound; rising = tt }; empty = tt }
 
 -- a table without rows is empty
 no_rows : {K V : Type 0} (form : TableForm K V) (trees : Trees) → trees form.table.tree ≡ [] → rows_under_keys form trees ≡ []
@@ -76,14 +77,14 @@ module _ (kept : Settings) (first second last : Database) (empty : IsEmptyOffice
   }
 
   -- which agrees with them
-  agreeing : is_in_step_in kept last.trees ≡ true
+  agreeing : is_in_step_in (empty_content kept) last.trees ≡ true
   unfolding is_in_step_in
-  agreeing = (λ i. not (unwrap_or (mark_stands i) false) || agrees (nothing_held i) (nothing_beside i)) ∙ refl
+  agreeing = (λ i. not (unwrap_or (mark_stands i) false) || agrees (empty_content kept) (nothing_beside i)) ∙ refl
 
   pub new_office : IsNewOffice kept last
   new_office = record {
     holds = record {
-      of_version = refl;
+      of_version = (omega arith, omega arith);
       is_office = marked.is_office;
       settings = settings_stand;
       prices = sym (ap (λ (c : Content). c.registered.prices) nothing_held);

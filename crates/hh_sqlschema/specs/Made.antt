@@ -2,7 +2,7 @@
 use Rattle.std.specs.Prelude.{◌≡◌, IsTrue}
 use Rattle.sqlite.specs.State.{HasCleanDisk, State}
 use Rattle.hh_rows.specs.declared.settings.Settings.{Settings}
-use Rattle.hh_sqlschema.specs.Holds.{IsNewOffice}
+use Rattle.hh_sqlrows.specs.Holds.{IsNewOffice}
 
 -- an office was just made and committed, and its connection is open
 pub record IsMadeIn (kept : Settings) (s : State) : Type 0 where

@@ -2,8 +2,8 @@
 use Rattle.std.specs.Prelude.{IsTrue}
 use Rattle.sqlite.specs.State.{State, Survives}
 use Rattle.hh_rows.specs.declared.settings.Settings.{Settings}
-use Rattle.hh_sqlschema.specs.Holds.{IsNewOffice}
-use Rattle.hh_sqlschema.specs.Leaving.{MayStand}
+use Rattle.hh_sqlrows.specs.Holds.{IsNewOffice}
+use Rattle.hh_sqlrows.specs.Leaving.{MayStand}
 
 -- a crash leaves what it would have left before of the open connection, or the office that was made
 abbrev pub MayMake : Settings → State → State → Type 0

@@ -4,16 +4,17 @@ ghost use Rattle.std.specs.Prelude.{◌≡◌, ◌≢◌, false, Err, IsTrue, On
 ghost use Rattle.sqlite.specs.Held.{state};
 ghost use Rattle.sqlite.specs.State.{HasCleanDisk};
 ghost use Rattle.hh_sqlrows.specs.Making.{IsMadeUpTo};
-ghost use Rattle.hh_sqlrows.specs.Statements.{CommitsNothing, Inside, KeepsCommit, StaysInside};
+ghost use Rattle.hh_sqlrows.specs.Reads.{Inside, WritesInside};
 ghost use Rattle.hh_sqlrows.specs.row_fault.RowFault.TheVariants.{Store};
 ghost use Rattle.hh_sqlrows.specs.OfficeSchema.{nothing};
-ghost use Rattle.hh_sqlschema.specs.Holds.{IsNewOffice};
+ghost use Rattle.hh_sqlrows.specs.Holds.{IsNewOffice};
 ghost use Rattle.hh_sqlschema.specs.Making.{MayMake};
 ghost use Rattle.hh_sqlschema.specs.Made.{IsMadeIn, IsUndone};
 
 use crate::schema::is_nothing;
 use hh_rows::Settings;
-use hh_sqlrows::{RowFault, insert_mark, insert_settings, make_tables};
+use hh_sqlrows::tables::{Marks, SettingsTable};
+use hh_sqlrows::{OneRow, RowFault, make_tables, replace};
 use sqlite::{Alter, Connection, Transaction};
 use std::alloc::Global;
 
@@ -23,24 +24,14 @@ fn write_new_office<S: Alter>(
     alloc: Global,
     settings: &Settings,
 ) -> Result<(), RowFault>
-    ensures same_reference { tx.new.conn.ghost_name ≡ tx.old.conn.ghost_name }
+    ensures frame { WritesInside S.Store tx.old tx.new result }
     ensures writes { let old = state S.Store tx.old.conn.now in
         let new = state S.Store tx.new.conn.now in
         Inside old new (IsMadeUpTo 0 old.now → OnOk result (IsNewOffice settings.now new.now)) }
-    ensures inside { let old = state S.Store tx.old.conn.now in
-        let new = state S.Store tx.new.conn.now in
-        StaysInside old new result }
-    ensures left { let old = state S.Store tx.old.conn.now in
-        let new = state S.Store tx.new.conn.now in
-        KeepsCommit old new }
-    ensures survives { let old = state S.Store tx.old.conn.now in
-        let new = state S.Store tx.new.conn.now in
-        CommitsNothing old new }
 {
     make_tables(tx)?;
-    insert_settings(tx, alloc, settings)?;
-    insert_mark(tx, alloc, true)?;
-    Ok(())
+    replace::<SettingsTable, S>(tx, alloc, &OneRow, settings)?;
+    replace::<Marks, S>(tx, alloc, &OneRow, &true)
 }
 
 /// Makes the database of an office with these settings in an empty database, in one transaction.

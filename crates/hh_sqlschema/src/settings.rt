@@ -6,11 +6,12 @@ ghost use Rattle.hh_sqlrows.specs.row_fault.RowFault.TheVariants.{Store};
 ghost use Rattle.hh_sqlrows.specs.OfficeSchema.{office};
 ghost use Rattle.hh_sqlrows.specs.Reads.{IsHonest, StaysOpen};
 ghost use Rattle.hh_sqlschema.specs.Adopted.{CrashAddsNothing, IsAdoptedFrom};
-ghost use Rattle.hh_sqlschema.specs.Leaving.{LeavesDatabase};
+ghost use Rattle.hh_sqlrows.specs.Leaving.{LeavesDatabase};
 
 use crate::rising::{Rising, has_office};
 use hh_rows::Settings;
-use hh_sqlrows::{RowFault, select_settings};
+use hh_sqlrows::tables::SettingsTable;
+use hh_sqlrows::{OneRow, RowFault, select};
 use sqlite::Connection;
 use std::alloc::Global;
 
@@ -36,7 +37,7 @@ pub fn settings_of_office<S: Rising>(
     if !has_office(connection) {
         return Err(RowFault::Store);
     }
-    match select_settings(connection, alloc) {
+    match select::<SettingsTable, S>(connection, alloc, &OneRow) {
         Ok(Some(settings)) => Ok(settings),
         Ok(None) => Err(RowFault::Store),
         Err(fault) => Err(fault),

@@ -10,11 +10,12 @@ use Rattle.hh_keyed_rows.specs.Values.{version}
 use Rattle.hh_sqlrows.specs.Contents.{mark_in, stored_content}
 use Rattle.hh_sqlrows.specs.Office.{IsOffice}
 use Rattle.hh_sqlrows.specs.OfficeTables.{one_row_cmp}
-use Rattle.hh_sqlschema.specs.Holds.{HasSettings, Holds}
-use Rattle.hh_sqlschema.specs.Leaving.{IsTakenOver, KeepsBeside, KeepsHeld, MayKeepBeside}
+use Rattle.hh_sqlrows.specs.Holds.{HasSettings, Holds}
+use Rattle.hh_sqlrows.specs.Leaving.{KeepsHeld}
+use Rattle.hh_sqlschema.specs.TakenOver.{IsTakenOver, KeepsBeside, MayKeepBeside}
 use Rattle.hh_sqlschema.specs.Adopted.{IsAdoptedFrom}
 use Rattle.hh_sqlstore.specs.steps.Kept.{IsMarked}
-use Rattle.hh_sqlstore.proofs.ContentLaws.{content_is}
+use Rattle.hh_sqlstore.proofs.ContentLaws.{content_is, holds_content}
 use Rattle.hh_sqlstore.proofs.CrashLaws.{trees_hold}
 
 module _ (old new : Database) where
@@ -22,31 +23,20 @@ module _ (old new : Database) where
   taken_content (inl same) kept = ap (λ (db : Database). stored_content kept db.trees) same
   taken_content (inr keeps) kept = keeps.content kept
 
-  taken_settings : IsTakenOver old new → (kept : Settings) → HasSettings kept old.trees → HasSettings kept new.trees
-  taken_settings (inl same) kept has = subst (λ (db : Database). HasSettings kept db.trees) (sym same) has
+  taken_settings : IsTakenOver old new → (kept : Settings) → HasSettings version kept old.trees → HasSettings version kept new.trees
+  taken_settings (inl same) kept has = subst (λ (db : Database). HasSettings version kept db.trees) (sym same) has
   taken_settings (inr keeps) kept has = ap (find one_row_cmp (record {})) keeps.settings ∙ has
 
   taken_office : IsTakenOver old new → IsOffice old → IsOffice new
   taken_office (inl same) is = subst IsOffice (sym same) is
   taken_office (inr keeps) is = keeps.is_office
 
--- an office's database contains the content given by its settings
-holds_content : (kept : Settings) (db : Database) → IsOffice db → HasSettings kept db.trees → Holds version (stored_content kept db.trees) db
-holds_content kept db is has = record {
-  of_version = refl;
-  is_office = is;
-  settings = has;
-  prices = refl;
-  alike = record { parties = refl; units = refl; references = refl; meters = refl; contracts = refl; reallocations = refl; files = refl; runs = refl; results = refl; credits = refl; postings = refl };
-  in_step = refl;
-}
-
 module _ (kept : Settings) (old new : State) (adopted : IsAdoptedFrom kept old) (marked : IsMarked old new) where
   office_committed : IsOffice old.committed
   office_committed = subst IsOffice adopted.settled adopted.is_office
 
-  settings_committed : HasSettings kept old.committed.trees
-  settings_committed = subst (λ (db : Database). HasSettings kept db.trees) adopted.settled adopted.settings
+  settings_committed : HasSettings version kept old.committed.trees
+  settings_committed = subst (λ (db : Database). HasSettings version kept db.trees) adopted.settled adopted.settings
 
   pub committed_taken : IsTakenOver old.committed new.committed
   committed_taken = subst (λ (db : Database). IsTakenOver db new.committed) adopted.settled (subst (IsTakenOver old.now) marked.settled marked.taken)

@@ -21,30 +21,30 @@ use Rattle.hh_sqlparts.specs.BesideAnew.{IsBesideAnew}
 use Rattle.hh_sqlparts.specs.declared.beside_anew.BesideAnew.{BesideAnew}
 use Rattle.hh_sqlchanges.specs.OwnAccounts.{RowsOfTheirAccounts}
 use Rattle.hh_sqlchanges.specs.Writes.{WritesBesideAnew}
-use Rattle.hh_sqlschema.specs.Leaving.{KeepsBeside}
+use Rattle.hh_sqlschema.specs.TakenOver.{KeepsBeside}
 use Rattle.hh_sqlstore.specs.steps.Changed.{KeepsLoad, KeepsRun}
 
 -- if positions are kept, what is kept is in step exactly if it agrees
-pub step_is : (kept : Settings) (trees : Trees) → mark_in trees ≡ Some true → is_in_step_in kept trees ≡ agrees (content_of kept trees) (beside_in trees)
+pub step_is : (kept : Settings) (trees : Trees) → mark_in trees ≡ Some true → is_in_step_in (content_of kept trees) trees ≡ agrees (content_of kept trees) (beside_in trees)
 unfolding is_in_step_in
 step_is kept trees marked = ap (λ m. not (unwrap_or m false) || agrees (content_of kept trees) (beside_in trees)) marked
 
 -- content that is in step is the same as the content said to be in step
-pub as_if : (kept : Settings) (trees : Trees) → is_in_step_in kept trees ≡ true → content_of kept trees ≡ stored_content kept trees
+pub as_if : (kept : Settings) (trees : Trees) → is_in_step_in (content_of kept trees) trees ≡ true → content_of kept trees ≡ stored_content kept trees
 as_if kept trees step = ap (λ b. record (content_of kept trees) { is_in_step = b }) (sym step)
 
 module _ (kept : Settings) (old new : Database) (marked : mark_in old.trees ≡ Some true) (same_mark : mark_in new.trees ≡ mark_in old.trees) where
   -- the tables of a state are in step, so what is kept beside them agrees with them
   in_state : (t : Content) → t.is_in_step ≡ true → stored_content kept old.trees ≡ t → (content_of kept old.trees ≡ t) × IsTrue (agrees t (beside_in old.trees))
   in_state t step is =
-      let old_step : is_in_step_in kept old.trees ≡ true = ap (λ (c : Content). c.is_in_step) is ∙ step in
+      let old_step : is_in_step_in (content_of kept old.trees) old.trees ≡ true = ap (λ (c : Content). c.is_in_step) is ∙ step in
       let same : content_of kept old.trees ≡ t = as_if kept old.trees old_step ∙ is in
       (same, subst (λ (c : Content). IsTrue (agrees c (beside_in old.trees))) same (sym (step_is kept old.trees marked) ∙ old_step))
 
   -- content with which everything agrees is stored as it is
   stored_as : (t : Content) → content_of kept new.trees ≡ t → IsTrue (agrees t (beside_in new.trees)) → t.is_in_step ≡ true → stored_content kept new.trees ≡ t
   stored_as t same agreeing step =
-      let new_step : is_in_step_in kept new.trees ≡ true = step_is kept new.trees (same_mark ∙ marked) ∙ ap (λ (c : Content). agrees c (beside_in new.trees)) same ∙ agreeing in
+      let new_step : is_in_step_in (content_of kept new.trees) new.trees ≡ true = step_is kept new.trees (same_mark ∙ marked) ∙ ap (λ (c : Content). agrees c (beside_in new.trees)) same ∙ agreeing in
       sym (as_if kept new.trees new_step) ∙ same
 
   pub load_kept : LoadEffect → LoadsAgree → (midnight : Midnights) (w : LoadChangeView) → IsLoadFrom midnight (stored_content kept old.trees) w → KeepsLoad w old new
@@ -74,7 +74,7 @@ module _ (kept : Settings) (old new : Database) (marked : mark_in old.trees ≡ 
       ∙ ap (effect_of_run w) (sym stands.1)
 
 -- if no positions are kept, nothing is out of step
-step_unmarked : (kept : Settings) (trees : Trees) → mark_in trees ≡ Some false → is_in_step_in kept trees ≡ true
+step_unmarked : (kept : Settings) (trees : Trees) → mark_in trees ≡ Some false → is_in_step_in (content_of kept trees) trees ≡ true
 unfolding is_in_step_in
 step_unmarked kept trees unmarked = ap (λ m. not (unwrap_or m false) || agrees (content_of kept trees) (beside_in trees)) unmarked
 
@@ -100,7 +100,7 @@ module _ (anew : MadeAnewAgrees) (written : MadeAnewAreWritten) (old new : Datab
     settings = writes.settings;
     content = λ kept.
         let agreeing = anew (content_of kept old.trees) (beside_in new.trees) (positions_written kept, touched_written kept) in
-        let new_step : is_in_step_in kept new.trees ≡ true =
+        let new_step : is_in_step_in (content_of kept new.trees) new.trees ≡ true =
         step_is kept new.trees writes.mark ∙ ap (λ (c : Content). agrees c (beside_in new.trees)) (writes.content kept) ∙ agreeing in
         sym (as_if kept new.trees new_step) ∙ writes.content kept ∙ as_if kept old.trees (step_unmarked kept old.trees unmarked);
   }

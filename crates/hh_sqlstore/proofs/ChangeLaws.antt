@@ -14,15 +14,16 @@ use Rattle.hh_states.specs.declared.run_keys.PostingKey.{PostingKey}
 use Rattle.hh_sqlrows.specs.Contents.{mark_in, stored_content}
 use Rattle.hh_sqlrows.specs.Office.{IsOffice}
 use Rattle.hh_sqlrows.specs.OfficeTables.{one_row_cmp}
-use Rattle.hh_sqlrows.specs.Reads.{IsHonest}
+use Rattle.hh_sqlrows.specs.Reads.{IsHonest, ReadsSettled}
 use Rattle.hh_sqlchanges.specs.Writes.{StaysOffice}
-use Rattle.hh_sqlparts.specs.Readings.{OfCommitted, ReadsSafely, SelectsOnly}
+use Rattle.hh_sqlparts.specs.steps.Readings.{SelectsOnly}
 use Rattle.hh_sqlparts.proofs.ReadingLaws.{reading_then}
-use Rattle.hh_sqlschema.specs.Holds.{Holds}
-use Rattle.hh_sqlschema.specs.Leaving.{MayStand}
+use Rattle.hh_sqlrows.specs.Holds.{Holds}
+use Rattle.hh_sqlrows.specs.Leaving.{MayStand}
 use Rattle.hh_sqlstore.specs.Stores.{IsIdle, Stored, content_in}
-use Rattle.hh_sqlstore.specs.steps.Changed.{ChangesNothing, IsChangedBy, MayChange}
+use Rattle.hh_sqlstore.specs.steps.Changed.{OfCommitted, ChangesNothing, IsChangedBy, MayChange}
 use Rattle.hh_sqlschema.specs.Made.{IsUndone}
+use Rattle.hh_sqlstore.proofs.ContentLaws.{holds_content}
 
 -- a transaction that was undone has only read
 pub reading_of_undone : (old new : State) → (IsTrue new.is_open → HasCleanDisk new) → IsUndone old new → SelectsOnly old new
@@ -40,14 +41,7 @@ reading_of_nothing old new clean nothing = record {
 
 -- the tables of an office that is still one, with its settings, contain their content
 pub still_holds : (kept : Settings) (old new : Database) → StaysOffice old new → Holds version (stored_content kept old.trees) old → Holds version (stored_content kept new.trees) new
-still_holds kept old new stays holds = record {
-  of_version = refl;
-  is_office = stays.is_office;
-  settings = ap (find one_row_cmp (record {})) stays.settings ∙ holds.settings;
-  prices = refl;
-  alike = record { parties = refl; units = refl; references = refl; meters = refl; contracts = refl; reallocations = refl; files = refl; runs = refl; results = refl; credits = refl; postings = refl };
-  in_step = refl;
-}
+still_holds kept old new stays holds = holds_content kept new stays.is_office (ap (find one_row_cmp (record {})) stays.settings ∙ holds.settings)
 
 module _ {S : Type 0} (g : Ghosts S) (t : Stored S) {posted : Option (Vec (PostingKey × ℤ))} (idle : IsIdle g t posted) (connection : Held S) (count : ℕ) (Change : Database → Database → Type 0)
     (changed : IsTrue (state g connection).is_open → IsChangedBy Change (state g t.connection) (state g connection)) where
@@ -115,16 +109,16 @@ may_change_so Change Other old new survives follows stands is settled clean tree
     stand_so (Change old.now) (Other old.now) follows trees ((survives is).crash clean trees may)
 
 -- the same after a reading that was answered, from which it follows
-pub may_change_after : {X E : Type 0} (Change Other : Database → Database → Type 0) (old mid new : State) (x : X) → SelectsOnly old mid → ReadsSafely {X = X} {E = E} old mid (Ok x) → IsHonest mid new
+pub may_change_after : {X E : Type 0} (Change Other : Database → Database → Type 0) (old mid new : State) (x : X) → ReadsSettled {X = X} {E = E} old mid (Ok x) → IsHonest mid new
     → (IsOffice mid.now → Survives mid new (MayStand (Change mid.now)))
     → (IsTrue mid.is_open → OfCommitted old ((db : Database) → Change old.now db → Other old.now db)) → MayChange Other old new
-may_change_after Change Other old mid new x reading safe honest survives follows stands is settled clean trees may =
+may_change_after Change Other old mid new x read honest survives follows stands is settled clean trees may =
     let before = honest clean in
-    let still = safe.stays before stands in
-    let kept = reading.left still is settled in
+    let still = read.stays stands before in
+    let kept = read.left still (is, settled) settled in
     let was : IsOffice mid.now = subst IsOffice (sym kept.0) is in
     either (stand_so (Change mid.now) (Other old.now) (λ db change. follows still is settled db (subst (λ (d : Database). Change d db) kept.0 change)) trees ((survives was).crash clean trees may))
   where
     either : mid.may_leave trees ⊎ MayStand (Other old.now) trees → old.may_leave trees ⊎ MayStand (Other old.now) trees
-    either (inl left) = inl (safe.crash stands is settled (honest clean) trees left)
+    either (inl left) = inl (read.crash stands (is, settled) (honest clean) trees left)
     either (inr changed) = inr changed

@@ -12,23 +12,14 @@ use Rattle.hh_states.specs.declared.run_keys.PostingKey.{PostingKey}
 use Rattle.hh_store.specs.Crashes.{AddsNothing, AddsOnly, LeavesContent}
 use Rattle.hh_sqlrows.specs.Contents.{mark_in, stored_content}
 use Rattle.hh_sqlrows.specs.Office.{IsOffice}
-use Rattle.hh_sqlrows.specs.Reads.{CommitsNothingOf, IsHonest}
 use Rattle.hh_sqlrows.specs.OfficeSchema.{office}
 use Rattle.hh_sqlchanges.specs.Writes.{StaysOffice}
-use Rattle.hh_sqlparts.specs.Readings.{LeavesNoMore, OfCommitted}
+use Rattle.hh_sqlrows.specs.Reads.{IsHonest, LeavesNoMore}
 use Rattle.hh_keyed_rows.specs.Values.{version}
-use Rattle.hh_sqlschema.specs.Holds.{Holds, TreesHold}
+use Rattle.hh_sqlrows.specs.Holds.{Holds, TreesHold}
 use Rattle.hh_sqlstore.specs.Stores.{IsHonestDisk, IsIdle, Stored, content_in}
 use Rattle.hh_sqlstore.specs.steps.Changed.{MayChange}
 use Rattle.hh_sqlstore.proofs.ChangeLaws.{still_holds}
-
-or_never : {A : Type 0} → A ⊎ ⊥ → A
-or_never (inl a) = a
-or_never (inr none) = absurd none
-
--- if an office is open, a statement that selects rows adds nothing to what a crash may leave
-pub statement_leaves : (old new : State) → CommitsNothingOf old new → IsTrue old.is_open → OfCommitted old (LeavesNoMore old new)
-statement_leaves old new nothing stands is settled clean trees may = or_never ((nothing is).crash clean trees may)
 
 -- if a database contains some content, so do its trees
 pub trees_hold : (content : Content) (db : Database) (trees : Trees) → trees ≡ db.trees → Holds version content db → TreesHold trees content
@@ -64,10 +55,10 @@ module _ {S : Type 0} (g : Ghosts S) (t : Stored S) {posted : Option (Vec (Posti
   is_office stands = subst IsOffice (sym (idle.settled stands)) (idle.holds stands).is_office
 
   -- a reading adds nothing to what a crash may leave
-  pub reading_adds_nothing : (If : Type 0 → Type 0) → (HasCleanDisk is → IsTrue was.is_open → If (IsTrue is.is_open)) → IsHonest was is → (IsTrue was.is_open → OfCommitted was (LeavesNoMore was is))
+  pub reading_adds_nothing : (If : Type 0 → Type 0) → (IsTrue was.is_open → HasCleanDisk is → If (IsTrue is.is_open)) → IsHonest was is → (IsTrue was.is_open → IsOffice was.now × (was.now ≡ was.committed) → LeavesNoMore was is)
       → (seen : Stored S) → t ≡ seen → TablesAddNothing g seen after If
   reading_adds_nothing If opened honest leaves seen is_seen = subst (λ (s : Stored S). TablesAddNothing g s after If) is_seen (λ clean.
-      (honest clean, λ stands. (opened clean stands, λ left may. leaves stands (is_office stands) (idle.settled stands) clean left may)))
+      (honest clean, λ stands. (opened stands clean, λ left may. leaves stands (is_office stands, idle.settled stands) clean left may)))
 
   -- a crash leaves the content that a change would make, if the database may have been changed like this
   made_by : (Change : Database → Database → Type 0) (Made : Content → Type 0) (stands : IsTrue was.is_open) → ((old new : Database) → Change old new → StaysOffice old new)

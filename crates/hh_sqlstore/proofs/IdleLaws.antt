@@ -13,8 +13,9 @@ use Rattle.hh_sqlrows.specs.Contents.{mark_in, stored_content}
 use Rattle.hh_sqlrows.specs.Forms.{rows_under_keys}
 use Rattle.hh_sqlrows.specs.Office.{IsOffice}
 use Rattle.hh_sqlrows.specs.OfficeTables.{postings}
-use Rattle.hh_sqlparts.specs.Readings.{SelectsOnly, OfSettled}
-use Rattle.hh_sqlschema.specs.Holds.{Holds}
+use Rattle.hh_sqlparts.specs.steps.Readings.{SelectsOnly}
+use Rattle.hh_sqlrows.specs.Reads.{OfSettled}
+use Rattle.hh_sqlrows.specs.Holds.{Holds}
 use Rattle.hh_sqlstore.specs.Stores.{ArePosted, IsIdle, Stored, content_in}
 
 module _ {S : Type 0} (g : Ghosts S) (t : Stored S) {posted : Option (Vec (PostingKey × ℤ))} (idle : IsIdle g t posted) (connection : Held S) (count : ℕ) (reading : SelectsOnly (state g t.connection) (state g connection)) where

@@ -3,8 +3,9 @@ use Rattle.std.proofs.Common.{◌≡◌, ◌⊎◌, inl, inr, IsTrue, subst}
 use Rattle.sqlite.specs.Effect.{Database}
 use Rattle.sqlite.specs.State.{HasCleanDisk, State, Survives}
 use Rattle.sqlite_trees.specs.Tree.{Trees}
-use Rattle.hh_sqlparts.specs.Readings.{LeavesNoMore}
-use Rattle.hh_sqlschema.specs.Leaving.{KeepsBeside, MayKeepBeside, MayStand}
+use Rattle.hh_sqlrows.specs.Reads.{LeavesNoMore}
+use Rattle.hh_sqlrows.specs.Leaving.{MayStand}
+use Rattle.hh_sqlschema.specs.TakenOver.{KeepsBeside, MayKeepBeside}
 
 or_never : {A : Type 0} → A ⊎ ⊥ → A
 or_never (inl a) = a

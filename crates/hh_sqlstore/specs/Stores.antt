@@ -12,7 +12,7 @@ use Rattle.hh_keyed_rows.specs.Values.{version}
 use Rattle.hh_sqlrows.specs.Contents.{mark_in, stored_content}
 use Rattle.hh_sqlrows.specs.Forms.{rows_under_keys}
 use Rattle.hh_sqlrows.specs.OfficeTables.{postings}
-use Rattle.hh_sqlschema.specs.Holds.{Holds}
+use Rattle.hh_sqlrows.specs.Holds.{Holds}
 
 pub record Stored (S : Type 0) : Type 0 where
   pub connection : Held S

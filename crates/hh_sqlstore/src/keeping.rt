@@ -7,7 +7,8 @@ ghost use Rattle.hh_sqlrows.specs.Contents.{mark_in};
 ghost use Rattle.hh_sqlrows.specs.Office.{IsOffice};
 ghost use Rattle.hh_sqlrows.specs.Reads.{IsHonest};
 ghost use Rattle.hh_sqlchanges.specs.Writes.{WritesBesideAnew};
-ghost use Rattle.hh_sqlschema.specs.Leaving.{MayKeepBeside, MayStand};
+ghost use Rattle.hh_sqlrows.specs.Leaving.{MayStand};
+ghost use Rattle.hh_sqlschema.specs.TakenOver.{MayKeepBeside};
 ghost use Rattle.hh_sqlstore.specs.steps.Changed.{ChangesNothing, IsChangedBy};
 ghost use Rattle.hh_sqlschema.specs.Made.{IsUndone};
 ghost use Rattle.hh_sqlstore.specs.steps.Kept.{IsMarked};
@@ -15,7 +16,8 @@ ghost use Rattle.hh_sqlstore.specs.steps.Kept.{IsMarked};
 use hh_keyed_rows::RowFault;
 use hh_sqlchanges::write_beside_anew;
 use hh_sqlparts::{BesideAnew, made_anew_agrees, made_anew_are_written, select_beside_anew};
-use hh_sqlrows::select_mark;
+use hh_sqlrows::tables::Marks;
+use hh_sqlrows::{OneRow, select};
 use sqlite::{Alter, Connection};
 use std::alloc::Global;
 
@@ -43,7 +45,7 @@ pub(crate) fn see_positions_kept<S: Alter>(
     ensures honest { IsHonest (state S.Store connection.old) (state S.Store connection.new) }
     ensures autocommit { connection.new.in_transaction ≡ false }
 {
-    match select_mark(connection, alloc)? {
+    match select::<Marks, S>(connection, alloc, &OneRow)? {
         Some(true) => Ok(()),
         Some(false) => keep_positions(connection, alloc),
         None => Err(RowFault::Store),

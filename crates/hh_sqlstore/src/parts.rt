@@ -1,6 +1,6 @@
 //! Reading a part of what is registered and in force.
 
-ghost use Rattle.std.specs.Prelude.{◌≡◌, false, IfOk, IsTrue};
+ghost use Rattle.std.specs.Prelude.{◌≡◌, IfOk, IsTrue};
 ghost use Rattle.sqlite.specs.Held.{state};
 ghost use Rattle.hh_rules.specs.RegisterView.{ServesFor};
 ghost use Rattle.hh_states.specs.DaySettlement.{periods_on};
@@ -10,7 +10,7 @@ ghost use Rattle.hh_sqlparts.specs.Parts.{whole_of};
 ghost use Rattle.hh_rows.specs.declared.settings.Settings.{Settings};
 ghost use Rattle.hh_states.specs.Beside.{agrees};
 ghost use Rattle.hh_sqlrows.specs.Contents.{beside_in, content_of, registered_of};
-ghost use Rattle.hh_sqlparts.specs.Readings.{OfSettled, ReadsSafely, SelectsOnly};
+ghost use Rattle.hh_sqlrows.specs.Reads.{OfSettled, ReadsSettled};
 
 use hh_keyed_rows::RowFault;
 use hh_names::Account;
@@ -33,13 +33,11 @@ pub(crate) fn register_of<S: Alter>(
     lead_minutes: LeadMinutes,
     rows: &[Row],
 ) -> Result<Register, StoreFault>
+    ensures frame { ReadsSettled (state S.Store conn.old) (state S.Store conn.new) result }
     ensures value { let old = state S.Store conn.old in
         let new = state S.Store conn.new in
         OfSettled old new (IfOk result
         (ServesFor rows.now (whole_of lead_minutes (registered_of old.now.trees)))) }
-    ensures reading { SelectsOnly (state S.Store conn.old) (state S.Store conn.new) }
-    ensures safe { ReadsSafely (state S.Store conn.old) (state S.Store conn.new) result }
-    ensures mode { conn.old.in_transaction ≡ false → conn.new.in_transaction ≡ false }
 {
     // Does nothing, but carries a law for the proof: a part of a part suffices.
     parts_of_parts();
@@ -55,13 +53,11 @@ pub(crate) fn contracts_of_account<S: Alter>(
     account: &Account,
     date: SettlementDate,
 ) -> Result<Vec<ContractRow>, RowFault>
+    ensures frame { ReadsSettled (state S.Store conn.old) (state S.Store conn.new) result }
     ensures value { let old = state S.Store conn.old in
         let new = state S.Store conn.new in
         OfSettled old new (IfOk result (λ rows.
         rows.items ≡ contracts_of account.now date (registered_of old.now.trees))) }
-    ensures reading { SelectsOnly (state S.Store conn.old) (state S.Store conn.new) }
-    ensures safe { ReadsSafely (state S.Store conn.old) (state S.Store conn.new) result }
-    ensures mode { conn.old.in_transaction ≡ false → conn.new.in_transaction ≡ false }
 {
     // Does nothing, but carries a law for the proof: the rows of the date suffice.
     contracts_by_their_rows();
@@ -76,15 +72,13 @@ pub(crate) fn data_of_day<S: Alter>(
     alloc: Global,
     day: &Day,
 ) -> Result<DayData, RowFault>
+    ensures frame { ReadsSettled (state S.Store conn.old) (state S.Store conn.new) result }
     ensures value { let old = state S.Store conn.old in
         let new = state S.Store conn.new in
         OfSettled old new ((settings : Settings)
         → IsTrue (agrees (content_of settings old.now.trees) (beside_in old.now.trees))
         → IfOk result (IsDayData (registered_of old.now.trees)
         (periods_on day.now.date day.now.count))) }
-    ensures reading { SelectsOnly (state S.Store conn.old) (state S.Store conn.new) }
-    ensures safe { ReadsSafely (state S.Store conn.old) (state S.Store conn.new) result }
-    ensures mode { conn.old.in_transaction ≡ false → conn.new.in_transaction ≡ false }
 {
     // Does nothing, but carries a law for the proof: the rows of the date and what is kept beside them
     // suffice.

@@ -1,13 +1,13 @@
 //! Reading parties, runs and the rows of runs.
 
-ghost use Rattle.std.specs.Prelude.{◌≡◌, bytes_eq, false, filter_map, map, IfOk};
+ghost use Rattle.std.specs.Prelude.{◌≡◌, bytes_eq, filter_map, map, IfOk};
 ghost use Rattle.std.specs.List.{list_any};
 ghost use Rattle.sqlite.specs.Held.{state};
 ghost use Rattle.hh_states.specs.Reads.{is_key_known_in, posting_to, result_in, summary_on};
 ghost use Rattle.hh_sqlrows.specs.Contents.{period_row, registered_of, result_of};
 ghost use Rattle.hh_sqlrows.specs.Forms.{rows_under_keys};
 ghost use Rattle.hh_sqlrows.specs.OfficeTables.{postings, results, runs};
-ghost use Rattle.hh_sqlparts.specs.Readings.{OfSettled, ReadsSafely, SelectsOnly};
+ghost use Rattle.hh_sqlrows.specs.Reads.{OfSettled, ReadsSettled};
 ghost use Rattle.hh_sqlstore.specs.Stores.{ArePosted};
 
 use hh_calc::AccountRow;
@@ -17,7 +17,8 @@ use hh_num::Pence;
 use hh_rows::PartyRegistration;
 use hh_runs::{RunKey, RunKind, Summary};
 use hh_sqlparts::{postings_to, runs_on};
-use hh_sqlrows::{select_parties, select_postings, select_results_of, select_runs_on};
+use hh_sqlrows::tables::{Parties, Postings, Results, Runs};
+use hh_sqlrows::{select_all, select_under};
 use hh_states::{PostingKey, ResultKey};
 use hh_time::SettlementDate;
 use sqlite::{Alter, Connection};
@@ -29,15 +30,13 @@ pub(crate) fn is_key_known<S: Alter>(
     alloc: Global,
     key: &[u8],
 ) -> Result<bool, RowFault>
+    ensures frame { ReadsSettled (state S.Store conn.old) (state S.Store conn.new) result }
     ensures value { let old = state S.Store conn.old in
         let new = state S.Store conn.new in
         OfSettled old new (IfOk result (λ known.
         known ≡ is_key_known_in (registered_of old.now.trees) key.now)) }
-    ensures reading { SelectsOnly (state S.Store conn.old) (state S.Store conn.new) }
-    ensures safe { ReadsSafely (state S.Store conn.old) (state S.Store conn.new) result }
-    ensures mode { conn.old.in_transaction ≡ false → conn.new.in_transaction ≡ false }
 {
-    let parties = select_parties(conn, alloc)?;
+    let parties = select_all::<Parties, S>(conn, alloc)?;
     Ok(has_key(&parties, key))
 }
 
@@ -54,15 +53,13 @@ pub(crate) fn runs_of_date<S: Alter>(
     alloc: Global,
     date: SettlementDate,
 ) -> Result<Vec<(RunKind, Summary)>, RowFault>
+    ensures frame { ReadsSettled (state S.Store conn.old) (state S.Store conn.new) result }
     ensures value { let old = state S.Store conn.old in
         let new = state S.Store conn.new in
         OfSettled old new (IfOk result (λ found.
         found.items ≡ filter_map (summary_on date) (rows_under_keys runs old.now.trees))) }
-    ensures reading { SelectsOnly (state S.Store conn.old) (state S.Store conn.new) }
-    ensures safe { ReadsSafely (state S.Store conn.old) (state S.Store conn.new) result }
-    ensures mode { conn.old.in_transaction ≡ false → conn.new.in_transaction ≡ false }
 {
-    let rows = select_runs_on(conn, alloc, &date)?;
+    let rows = select_under::<Runs, SettlementDate, S>(conn, alloc, &date)?;
     Ok(runs_on(alloc, date, &rows)?)
 }
 
@@ -72,15 +69,13 @@ pub(crate) fn results_of_run<S: Alter>(
     alloc: Global,
     run: &RunKey,
 ) -> Result<Vec<(PeriodNumber, AccountRow)>, RowFault>
+    ensures frame { ReadsSettled (state S.Store conn.old) (state S.Store conn.new) result }
     ensures value { let old = state S.Store conn.old in
         let new = state S.Store conn.new in
         OfSettled old new (IfOk result (λ found. found.items
         ≡ filter_map (result_in run.now) (map result_of (rows_under_keys results old.now.trees)))) }
-    ensures reading { SelectsOnly (state S.Store conn.old) (state S.Store conn.new) }
-    ensures safe { ReadsSafely (state S.Store conn.old) (state S.Store conn.new) result }
-    ensures mode { conn.old.in_transaction ≡ false → conn.new.in_transaction ≡ false }
 {
-    let rows = select_results_of(conn, alloc, run)?;
+    let rows = select_under::<Results, RunKey, S>(conn, alloc, run)?;
     Ok(rows_by_period(alloc, &rows)?)
 }
 
@@ -105,6 +100,7 @@ pub(crate) fn postings_to_account<S: Alter>(
     posted: &mut Option<Vec<(PostingKey, Pence)>>,
     account: &Account,
 ) -> Result<Vec<(RunKey, Pence)>, RowFault>
+    ensures frame { ReadsSettled (state S.Store conn.old) (state S.Store conn.new) result }
     ensures value { let old = state S.Store conn.old in
         let new = state S.Store conn.new in
         ArePosted old posted.old → OfSettled old new (IfOk result (λ found. found.items
@@ -112,9 +108,6 @@ pub(crate) fn postings_to_account<S: Alter>(
     ensures posted { let old = state S.Store conn.old in
         let new = state S.Store conn.new in
         ArePosted old posted.old → OfSettled old new (ArePosted old posted.new) }
-    ensures reading { SelectsOnly (state S.Store conn.old) (state S.Store conn.new) }
-    ensures safe { ReadsSafely (state S.Store conn.old) (state S.Store conn.new) result }
-    ensures mode { conn.old.in_transaction ≡ false → conn.new.in_transaction ≡ false }
 {
     let rows = all_postings(conn, alloc, posted.take())?;
     let found = postings_to(alloc, account, &rows)?;
@@ -128,16 +121,14 @@ fn all_postings<S: Alter>(
     alloc: Global,
     posted: Option<Vec<(PostingKey, Pence)>>,
 ) -> Result<Vec<(PostingKey, Pence)>, RowFault>
+    ensures frame { ReadsSettled (state S.Store conn.old) (state S.Store conn.new) result }
     ensures value { let old = state S.Store conn.old in
         let new = state S.Store conn.new in
         ArePosted old posted → OfSettled old new (IfOk result (λ rows.
         rows.items ≡ rows_under_keys postings old.now.trees)) }
-    ensures reading { SelectsOnly (state S.Store conn.old) (state S.Store conn.new) }
-    ensures safe { ReadsSafely (state S.Store conn.old) (state S.Store conn.new) result }
-    ensures mode { conn.old.in_transaction ≡ false → conn.new.in_transaction ≡ false }
 {
     match posted {
         Some(rows) => Ok(rows),
-        None => select_postings(conn, alloc),
+        None => select_all::<Postings, S>(conn, alloc),
     }
 }

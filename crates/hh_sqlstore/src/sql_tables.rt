@@ -9,8 +9,9 @@ ghost use Rattle.hh_states.specs.States.{empty_state};
 ghost use Rattle.hh_keyed_rows.specs.Values.{version};
 ghost use Rattle.hh_sqlrows.specs.OfficeSchema.{nothing, office};
 ghost use Rattle.hh_store.specs.declared.store_fault.StoreFault.TheVariants.{Store};
-ghost use Rattle.hh_sqlschema.specs.Holds.{Holds, IsNewOffice};
-ghost use Rattle.hh_sqlschema.specs.Leaving.{KeepsHeld, LeavesDatabase, MayKeepBeside, TakesOver};
+ghost use Rattle.hh_sqlrows.specs.Holds.{Holds, IsNewOffice};
+ghost use Rattle.hh_sqlrows.specs.Leaving.{KeepsHeld, LeavesDatabase};
+ghost use Rattle.hh_sqlschema.specs.TakenOver.{MayKeepBeside, TakesOver};
 ghost use Rattle.hh_sqlschema.specs.Making.{MayMake};
 ghost use Rattle.hh_sqlstore.specs.Stores.{content_in};
 

@@ -2,7 +2,7 @@
 
 ghost use Rattle.sqlite_trees.specs.Tree.{Trees};
 ghost use Rattle.sqlite.specs.Held.{state};
-ghost use Rattle.hh_sqlschema.specs.Holds.{TreesHold};
+ghost use Rattle.hh_sqlrows.specs.Holds.{TreesHold};
 ghost use Rattle.hh_sqlstore.specs.Stores.{IsHonestDisk, content_in};
 
 use crate::changing::{keep_load, keep_run};
@@ -20,7 +20,8 @@ use hh_rules::Register;
 use hh_runs::{RunKey, RunKind, Summary};
 use hh_sqlchanges::{load_effect, rows_of_their_accounts, run_effect};
 use hh_sqlparts::{loads_agree, runs_agree};
-use hh_sqlrows::{select_file, select_party, select_reference, select_unit};
+use hh_sqlrows::select;
+use hh_sqlrows::tables::{Files, Parties, References, Units};
 use hh_states::FileKey;
 use hh_store::{
     DayData, KeptFile, LoadChange, OutputFault, RunChange, StoreFault, Tables, reported_as,
@@ -48,21 +49,21 @@ impl<S: Alter> Tables for SqlTables<S> {
     }
 
     fn party(&mut self, party: &PartyId) -> Result<Option<PartyRegistration>, StoreFault> {
-        match select_party(&mut self.connection, self.alloc, party) {
+        match select::<Parties, S>(&mut self.connection, self.alloc, party) {
             Ok(found) => Ok(found),
             Err(fault) => Err(refuse(&mut self.refusals, StoreFault::from(fault))),
         }
     }
 
     fn unit(&mut self, unit: &UnitId) -> Result<Option<UnitRegistration>, StoreFault> {
-        match select_unit(&mut self.connection, self.alloc, unit) {
+        match select::<Units, S>(&mut self.connection, self.alloc, unit) {
             Ok(found) => Ok(found),
             Err(fault) => Err(refuse(&mut self.refusals, StoreFault::from(fault))),
         }
     }
 
     fn reference(&mut self, reference: &Reference) -> Result<Option<Counterparties>, StoreFault> {
-        match select_reference(&mut self.connection, self.alloc, reference) {
+        match select::<References, S>(&mut self.connection, self.alloc, reference) {
             Ok(found) => Ok(found),
             Err(fault) => Err(refuse(&mut self.refusals, StoreFault::from(fault))),
         }
@@ -77,7 +78,7 @@ impl<S: Alter> Tables for SqlTables<S> {
 
     fn file(&mut self, kind: FileKind, name: &FileName) -> Result<Option<KeptFile>, StoreFault> {
         let key = FileKey { kind, name: *name };
-        match select_file(&mut self.connection, self.alloc, &key) {
+        match select::<Files, S>(&mut self.connection, self.alloc, &key) {
             Ok(found) => Ok(found),
             Err(fault) => Err(refuse(&mut self.refusals, StoreFault::from(fault))),
         }

@@ -25,10 +25,9 @@ use Rattle.hh_states.specs.declared.run_keys.CreditKey.{CreditKey}
 use Rattle.hh_states.specs.Content.{tables_of}
 use Rattle.hh_states.specs.DaySettlement.{missing_meter, missing_price, periods_on, too_large, unit_periods_at}
 use Rattle.hh_states.specs.PeriodSettlement.{reading_of, terms_at, unit_with, units_on}
-use Rattle.hh_states.specs.Readiness.{IsComplete, RunsComplete}
 use Rattle.hh_states.specs.Runs.{Run, periods_of, seen_by}
 use Rattle.hh_states.specs.States.{State}
-use Rattle.hh_states.specs.Steps.{at_first, by_load, by_run, first_there, kinds_on, missing_meter_fault, new_run, period_fault, registered_at, rows_coming, run_fault, timetable_at}
+use Rattle.hh_states.specs.Steps.{IsReached, at_first, by_load, by_run, first_there, kinds_on, missing_meter_fault, new_run, period_fault, registered_at, rows_coming, run_fault, timetable_at}
 use Rattle.hh_states.specs.Sums.{EachUnitCredited, IsCreditedByReading, credited_from}
 use Rattle.hh_state_laws.proofs.ApartLaws.{all-append, all-before-map, all-weaken}
 use Rattle.hh_state_laws.proofs.CreditSumLaws.{credits_sum_exactly}
@@ -84,6 +83,13 @@ each_made {Y = Y} {Z = Z} see make P (x ∷ xs) h =
       | Some w ↦ λ all. (λ z is. subst (λ v. P (make x v)) (same_Some w z is) all.0, each_made see make P xs all.1)
     ] h
 
+-- What is registered and in force has all that a run of these Settlement Periods needs: each of them has a price, each unit has a
+-- reading in each of them, and none passes a limit of settlement.
+pub record IsComplete (tables : Registered) (periods : List SettlementPeriod) : Type 0 where
+  pub prices : missing_price tables periods ≡ None
+  pub readings : missing_meter tables periods ≡ None
+  pub limits : too_large tables periods ≡ None
+
 -- if a run can be ordered, what is registered and in force lacks nothing for it
 ordered_complete : (midnight : Midnights) (s : State) (moment : ℤ) (key : RunKey) → run_fault midnight s moment key ≡ None
     → IsComplete (registered_at midnight s) (periods_on key.date (period_count midnight key.date))
@@ -112,7 +118,8 @@ still_complete midnight timetable history more (r ∷ runs) within all =
     (subst (λ saw. IsComplete saw (periods_of midnight r)) (sym (seen_same timetable history more r within.0)) all.0, still_complete midnight timetable history more runs within.1 all.1)
 
 -- in each reached state each run lacked nothing when it was ordered
-pub runs_complete : RunsComplete
+pub runs_complete : (midnight : Midnights) (s : State) → IsReached midnight s
+    → AllByRecursion (λ r. IsComplete (seen_by (timetable_at midnight s) s.history r) (periods_of midnight r)) s.runs
 runs_complete midnight s (at_first settings fine) = tt
 runs_complete midnight s (by_load t load reached can) =
     still_complete midnight (timetable_at midnight t) t.history (rows_coming load) t.runs (reached_within midnight t reached) (runs_complete midnight t reached)

@@ -1,10 +1,11 @@
 -- What is registered and in force is consistent in each state that the machine reaches, and was when each run was ordered.
-use Rattle.std.proofs.Common.{◌≡◌, ℕ, ◌+◌, List, [], ◌∷◌, ◌++◌, refl, sym, subst, ◌∙◌, Bool, true, false, cond, Some, None, arith}
+use Rattle.std.proofs.Common.{◌≡◌, ℕ, List, [], ◌∷◌, ◌++◌, refl, sym, subst, ◌∙◌, Bool, true, false, cond, Some, None, arith}
 use Rattle.std.specs.Prelude.{ℤ, pos, ◌+ℤ◌, ◌≤ℤ◌, ◌&&◌, not, int_lt, is_none}
 use Rattle.std.specs.FinMap.{find}
 use Rattle.std.proofs.lemmas.Bool.{and_parts, not-false, or_parts}
 use Rattle.std.proofs.lemmas.Int.{ints}
 use Rattle.std.proofs.lemmas.Option.{none-some}
+use Rattle.std.specs.List.{AllByRecursion}
 use Rattle.hh_num.specs.Quantities.{hundred_percent}
 use Rattle.hh_tables.proofs.TableLaws.{false_is_not_true}
 use Rattle.hh_names.specs.declared.fault.Refusal.{Refusal}
@@ -33,8 +34,12 @@ use Rattle.hh_rules.specs.History.{History, Registered, nothing_registered, regi
 use Rattle.hh_rules.specs.Lateness.{Accepted, Timetable, accepted_at, comes_in_time, is_before_deadline, is_in_time, is_there, lacks_period, timing_by, timing_of}
 use Rattle.hh_rules.specs.Percents.{percent_of_others}
 use Rattle.hh_rules.specs.Refusals.{contract_refusals, is_party_off, is_same_mark, is_unit_moved, is_unit_off, meter_refusals, most_parties, most_units, party_refusals, reallocation_refusals, refusals_of, unit_refusals, whole_standing}
+use Rattle.hh_time.specs.Days.{Midnights}
 use Rattle.hh_rules.proofs.HistoryLaws.{looks_back}
-use Rattle.hh_states.specs.Soundness.{AreConsistent, AreTables, ConsistentRuns, ConsistentStates, HasCounterparties, IsInsideLead, IsToSubsidiary, IsUnitEffective}
+use Rattle.hh_states.specs.Soundness.{AreConsistent, AreTables, ConsistentStates, HasCounterparties, IsInsideLead, IsToSubsidiary, IsUnitEffective}
+use Rattle.hh_states.specs.Steps.{IsReached, timetable_at}
+use Rattle.hh_states.specs.Runs.{seen_by}
+use Rattle.hh_states.specs.States.{State}
 use Rattle.hh_state_laws.proofs.AcceptedLaws.{reached_holds, runs_hold}
 use Rattle.hh_state_laws.proofs.EffectiveLaws.{Keeps, KeepsParty, KeepsUnit, counterparties_stay, fixed_by_row, inside_itself, inside_lead, lead_stays, not_passed, one_account, party_effective, party_stays, same_parties, same_units, subsidiary_stays, two_accounts, unit_effective, unit_stays}
 use Rattle.hh_state_laws.proofs.PutLaws.{keys-put, keys-put_in_time, length-put_within, percents-put_in_time, stays-put, stays-put_new, table-put_entry, table-put_in_time, table-put_new, values-put}
@@ -263,5 +268,6 @@ pub reached_consistent : ConsistentStates
 reached_consistent = reached_holds (λ timetable history. AreConsistent (registered_in timetable history)) (λ timetable. nothing_consistent) consistent_with
 
 -- and it was when each run was ordered
-pub runs_consistent : ConsistentRuns
+pub runs_consistent : (midnight : Midnights) (s : State) → IsReached midnight s
+    → AllByRecursion (λ r. AreConsistent (seen_by (timetable_at midnight s) s.history r)) s.runs
 runs_consistent = runs_hold (λ timetable history. AreConsistent (registered_in timetable history)) (λ timetable. nothing_consistent) consistent_with

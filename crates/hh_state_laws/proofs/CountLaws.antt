@@ -33,13 +33,12 @@ use Rattle.hh_states.specs.Content.{runs_with_former}
 use Rattle.hh_states.specs.DaySettlement.{day_net, settled_at}
 use Rattle.hh_names.specs.PartyAccounts.{both_accounts}
 use Rattle.hh_states.specs.PeriodSettlement.{accounts_on}
-use Rattle.hh_states.specs.Readiness.{IsComplete}
 use Rattle.hh_states.specs.Runs.{Run, accounts_of, nets_of, periods_of, postings_after, seen_by, settled_by, summary_after}
 use Rattle.hh_states.specs.Soundness.{AreConsistent}
 use Rattle.hh_states.specs.States.{State}
 use Rattle.hh_states.specs.Steps.{registered_at, timetable_at}
 use Rattle.hh_state_laws.proofs.ApartLaws.{NoneAlike, all-append, all-filter, all-map, all-weaken, have_one_key}
-use Rattle.hh_state_laws.proofs.CompleteLaws.{runs_complete}
+use Rattle.hh_state_laws.proofs.CompleteLaws.{IsComplete, runs_complete}
 use Rattle.hh_state_laws.proofs.ConsistentLaws.{reached_consistent, runs_consistent}
 use Rattle.hh_state_laws.proofs.PostingLaws.{all-with_former, differences_distinct}
 use Rattle.hh_state_laws.proofs.ReadyLaws.{Differ, all_both, differs, no_more, one_of_both, two_each}

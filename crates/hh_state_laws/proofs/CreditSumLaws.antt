@@ -31,7 +31,7 @@ use Rattle.hh_states.specs.Runs.{Run, periods_of, run_key_cmp, seen_by, settled_
 use Rattle.hh_states.specs.Soundness.{AreConsistent}
 use Rattle.hh_states.specs.States.{State}
 use Rattle.hh_states.specs.Steps.{IsReached, timetable_at}
-use Rattle.hh_states.specs.Sums.{CreditsSumExactly, credited_from}
+use Rattle.hh_states.specs.Sums.{credited_from}
 use Rattle.hh_states.proofs.KeyLaws.{credit_key_total, run_key_total}
 use Rattle.hh_state_laws.proofs.AmountLaws.{in_key_order_moves}
 use Rattle.hh_state_laws.proofs.ApartLaws.{NoneAlike, all-weaken, distinct-weaken, distinct_blocks, first_part, have_one_key}
@@ -171,7 +171,10 @@ module _ (midnight : Midnights) (s : State) where
         (each_alone have_one_number (λ x. eq-eqb x.period x.period refl) (λ x y. turned_number x.period y.period) (periods_of midnight r) (numbers_differ r.key.date (period_count midnight r.key.date)))
 
 -- the credits in the tables from each unit in each Settlement Period of each run sum to its loss-adjusted volume
-pub credits_sum_exactly : CreditsSumExactly
+pub credits_sum_exactly : (midnight : Midnights) (s : State) → IsReached midnight s
+    → AllByRecursion (λ r. AllByRecursion (λ at. All
+    (λ u. credited_from u.unit at.period r.key (tables_of midnight s).credits ≡ loss_adjusted u)
+    (terms_at (seen_by (timetable_at midnight s) s.history r) at).units) (periods_of midnight r)) s.runs
 credits_sum_exactly midnight s reached =
     all-weaken (λ r. AreConsistent (seen midnight s r) × CountsAlone have_one_run_key s.runs r) (λ r. AllByRecursion (EachUnit midnight s r) (periods_of midnight r))
     (each_run midnight s reached) s.runs

@@ -1,6 +1,6 @@
 -- The tables of each state that the machine reaches have only values in the grammars and ranges of their fields, and no party has
 -- the operator's key.
-use Rattle.std.proofs.Common.{◌≡◌, ◌≢◌, ℕ, ℤ, ◌+◌, ◌≤◌, List, [], ◌∷◌, length, map, filter, refl, sym, ap, subst, ◌∙◌, Bool, true, false, cond, Option, Some, None, Ordering}
+use Rattle.std.proofs.Common.{◌≡◌, ◌≢◌, ℕ, ℤ, ◌+◌, ◌≤◌, List, [], ◌∷◌, length, filter, refl, sym, ap, subst, ◌∙◌, Bool, true, false, cond, Option, Some, None, Ordering}
 use Rattle.std.specs.Prelude.{IsTrue, is_some, not, take, ◌&&◌, codes, nat_le}
 use Rattle.std.specs.FinMap.{find, put}
 use Rattle.std.specs.FinMap.Entries.{by_order}
@@ -12,7 +12,7 @@ use Rattle.std.proofs.lemmas.List.{length-map}
 use Rattle.std.proofs.lemmas.List.Filters.{length-filter_both}
 use Rattle.std.proofs.lemmas.Slice.Eq.{bytes_eq-Decides}
 use Rattle.hh_num.specs.Quantities.{volumes}
-use Rattle.hh_tables.specs.Tables.{Table, in_key_order}
+use Rattle.hh_tables.specs.Tables.{Table}
 use Rattle.hh_tables.proofs.TableLaws.{false_is_not_true}
 use Rattle.hh_time.specs.Days.{Midnights}
 use Rattle.hh_names.specs.declared.values.Counterparties.{Counterparties}
@@ -37,8 +37,8 @@ use Rattle.hh_rules.specs.FileRows.{coming_at, late_count, timely_rows}
 use Rattle.hh_rules.specs.History.{History, Registered, nothing_registered, registered_in}
 use Rattle.hh_rules.specs.Lateness.{Timetable, accepted_at, is_in_time}
 use Rattle.hh_rules.proofs.HistoryLaws.{looks_back}
-use Rattle.hh_states.specs.Ranges.{AreOfRows, IsKeptFile, KeysNeverMeet, ReachedFiles, ReachedInRange}
-use Rattle.hh_states.specs.States.{KeptFileView, State, file_key_cmp}
+use Rattle.hh_states.specs.Ranges.{IsKeptFile, KeysNeverMeet, ReachedFiles}
+use Rattle.hh_states.specs.States.{KeptFileView, State}
 use Rattle.hh_states.specs.Steps.{IsReached, at_first, by_load, by_run, kept_file, timetable_at}
 use Rattle.hh_states.specs.declared.file_key.FileKey.{FileKey}
 use Rattle.hh_state_laws.proofs.AcceptedLaws.{reached_holds}
@@ -76,11 +76,6 @@ module _ {K V : Type 0} (R : K → K → Ordering) (P : K × V → Type 0) (cros
   all-put_in_time in_time None es own all = all
   all-put_in_time true (Some e) es own all = all-put e.0 e.1 es own all
   all-put_in_time false (Some e) es own all = all
-
-  -- if each entry has the property, so has each after sorting
-  all-in_key_order : (es : List (K × V)) → AllByRecursion P es → AllByRecursion P (in_key_order R es)
-  all-in_key_order [] all = tt
-  all-in_key_order (e ∷ es) all = all-put e.0 e.1 (in_key_order R es) all.0 (all-in_key_order es all.1)
 
 -- ---- rows
 
@@ -135,6 +130,16 @@ reallocation_of : (r : Row) → IsRow r → OfEntry OfReallocation (reallocation
 reallocation_of (row.Reallocation r) valued = valued
 reallocation_of _ valued = tt
 
+-- each key and value of what is registered and in force is one that a row can have
+record AreOfRows (tables : Registered) : Type 0 where
+  pub parties : AllByRecursion (λ e. IsPartyRow (record { party = e.0; registration = e.1 })) tables.parties
+  pub units : AllByRecursion (λ e. IsUnitRow (record { unit = e.0; registration = e.1 })) tables.units
+  pub references : AllByRecursion (λ e. IsTrue (is_reference e.0) × AreCounterparties e.1) tables.references
+  pub meters : AllByRecursion (λ e. IsMeterRow (record { key = e.0; reading = e.1 })) tables.meters
+  pub prices : AllByRecursion (λ e. IsPriceRow (record { at = e.0; price = e.1 })) tables.prices
+  pub contracts : AllByRecursion (λ e. IsContractKey e.0 × IsQuantity volumes e.1) tables.contracts
+  pub reallocations : AllByRecursion (λ e. IsReallocationRow (record { key = e.0; reallocation = e.1 })) tables.reallocations
+
 -- what is registered and in force comes from rows, also after one more row
 of_rows_with : (in_time : Bool) (r : Row) (tables : Registered) → IsRow r → AreOfRows tables → AreOfRows (with_row in_time r tables)
 of_rows_with in_time r tables valued before = record {
@@ -187,14 +192,6 @@ files_in_range midnight s (by_load t load reached can) =
     all-append OfFile t.files ((load.key, file) ∷ []) (files_in_range midnight t reached)
     (record { named = can.named; small = can.file.small; few = subst (λ n. n ≤ most_rows) (sym counts) can.file.few }, tt)
 files_in_range midnight s (by_run t moment key reached can) = files_in_range midnight t reached
-
--- the tables of each reached state have only values in their grammars and ranges
-pub reached_in_range : ReachedInRange
-reached_in_range midnight s reached = record {
-  settings = settings_in_range midnight s reached;
-  registered = registered_of_rows midnight s reached;
-  files = all-in_key_order file_key_cmp OfFile (λ q k w v old new. record { named = old.named; small = new.small; few = new.few }) s.files (files_in_range midnight s reached);
-}
 
 -- ---- keys
 

@@ -1,5 +1,5 @@
 -- If what is registered and in force is consistent, each Settlement Period may be settled from it. So this holds in each state that
--- the machine reaches, and held when each run was ordered.
+-- the machine reaches.
 use Rattle.std.proofs.Common.{◌≡◌, ◌≢◌, ℕ, zero, suc, ◌*◌, ◌≤◌, ◌<◌, List, [], ◌∷◌, ◌++◌, length, map, refl, sym, ap, subst, ◌∙◌, Bool, true, false, cond, Option, Some, None, Ordering, arith}
 use Rattle.std.specs.Prelude.{All, AllPairs, Contains, T, filter, filter_map, is_some, option_map, ℤ}
 use Rattle.std.specs.Cmp.{IsTotalOrder, Equal-is, eq_by_cmp_equiv, tied_itself}
@@ -42,13 +42,12 @@ use Rattle.hh_calc.specs.Ready.{AreContractsReady, HasFewSubsidiaries, IsContrac
 use Rattle.hh_calc.specs.Terms.{UnitDataView}
 use Rattle.hh_names.specs.PartyAccounts.{both_accounts}
 use Rattle.hh_states.specs.PeriodSettlement.{accounts_on, reading_of, rows_in_force, subsidiaries_of, terms_at, unit_with, units_on}
-use Rattle.hh_states.specs.Readiness.{AreTermsConsistent, PeriodsReady, RunPeriodsReady}
-use Rattle.hh_states.specs.Runs.{seen_by}
+use Rattle.hh_states.specs.Readiness.{AreTermsConsistent, PeriodsReady}
 use Rattle.hh_states.specs.Soundness.{AreConsistent, IsPartyEffective}
-use Rattle.hh_states.specs.Steps.{registered_at, timetable_at}
+use Rattle.hh_states.specs.Steps.{registered_at}
 use Rattle.hh_states.specs.Sums.{CreditsEachOnce}
 use Rattle.hh_state_laws.proofs.ApartLaws.{NoneAlike, all-map, all-weaken, distinct-filter, have_one_key, sorted_distinct}
-use Rattle.hh_state_laws.proofs.ConsistentLaws.{reached_consistent, runs_consistent}
+use Rattle.hh_state_laws.proofs.ConsistentLaws.{reached_consistent}
 use Rattle.hh_state_laws.proofs.EffectiveLaws.{wider_holds}
 
 module _ {X : Type 0} (P : X → Type 0) where
@@ -409,9 +408,3 @@ module _ (tables : Registered) (consistent : AreConsistent tables) (at : Settlem
 -- in each reached state, each Settlement Period may be settled
 pub periods_ready : PeriodsReady
 periods_ready midnight s at reached = terms_ready (registered_at midnight s) (reached_consistent midnight s reached) at
-
--- and it could be when each run was ordered
-pub run_periods_ready : RunPeriodsReady
-run_periods_ready midnight s at reached =
-    all-weaken (λ r. AreConsistent (seen_by (timetable_at midnight s) s.history r)) (λ r. AreTermsConsistent (terms_at (seen_by (timetable_at midnight s) s.history r) at))
-    (λ r consistent. terms_ready (seen_by (timetable_at midnight s) s.history r) consistent at) s.runs (runs_consistent midnight s reached)

@@ -35,7 +35,7 @@ use Rattle.hh_states.specs.DaySettlement.{day_net, from_one_to, period_net, peri
 use Rattle.hh_names.specs.PartyAccounts.{both_accounts}
 use Rattle.hh_states.specs.PeriodSettlement.{account_rows, accounts_on, settled, terms_at}
 use Rattle.hh_states.specs.Reads.{results_in}
-use Rattle.hh_states.specs.RunReads.{DayNetsFromResults, HoldsNoOtherResults, HoldsPostings, HoldsResults, paid_in, rows_by_period, rows_in_run}
+use Rattle.hh_states.specs.RunReads.{DayNetsFromResults, HoldsPostings, HoldsResults, paid_in, rows_by_period, rows_in_run}
 use Rattle.hh_states.specs.Runs.{Run, nets_of, run_key_cmp, settled_by}
 use Rattle.hh_states.specs.States.{State}
 use Rattle.hh_states.specs.Steps.{timetable_at}
@@ -44,8 +44,7 @@ use Rattle.hh_states.proofs.ReadLaws.{postings_read}
 use Rattle.hh_state_laws.proofs.ApartLaws.{NoneAlike, all-map, all-weaken, distinct-append, distinct-filter, distinct-map, distinct_blocks}
 use Rattle.hh_state_laws.proofs.BalanceLaws.{day_nets_are_sums}
 use Rattle.hh_state_laws.proofs.PostingLaws.{postings_total, runs_distinct}
-use Rattle.hh_state_laws.proofs.RisingLaws.{Rises, filter_map-if, first_below, is_not_below, less_number, map-map, no_block, own_block, read_as_they_came, rising_if_sorted, second_below, two_parts_below}
-use Rattle.hh_state_laws.proofs.RunLaws.{others}
+use Rattle.hh_state_laws.proofs.RisingLaws.{Rises, filter_map-if, first_below, is_not_below, less_number, map-map, own_block, read_as_they_came, rising_if_sorted, second_below, two_parts_below}
 use Rattle.hh_state_laws.proofs.RunRowLaws.{all_of, at_most, results_own, rows_all}
 
 -- the numbers from 1 on rise
@@ -183,14 +182,6 @@ holds_results midnight s reached =
     (λ r are. rows_read midnight s r.key (run_entries midnight s r) are (results_rise r.key timetable (take r.row_count s.history) r.key.date (period_count midnight r.key.date))
     ∙ shown_by_period r.key (settled_by timetable s.history r))
     s.runs (own_entries midnight s (runs_distinct midnight s reached))
-
--- the tables have no rows of a run that does not exist
-pub holds_no_other_results : HoldsNoOtherResults
-holds_no_other_results midnight s key none =
-    rows_read midnight s key []
-    (no_block (eq_by_cmp run_key_cmp) (eq_by_cmp_equiv run_key_total).refl (eq_by_cmp_equiv run_key_total).symm
-    (λ (r : Run). r.key) (λ (e : ResultKey × AccountRow). e.0.run) (run_entries midnight s) (λ r. results_own r.key (settled_by (timetable_at midnight s) s.history r)) key s.runs (others midnight s key none))
-    tt
 
 -- the postings to an account in the tables sum to what the latest runs of all dates move to it
 pub holds_postings : HoldsPostings

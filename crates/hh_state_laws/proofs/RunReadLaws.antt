@@ -21,7 +21,7 @@ use Rattle.hh_runs.specs.RunKinds.{run_kind_cmp, run_kind_number}
 use Rattle.hh_runs.specs.declared.run_key.RunKey.{RunKey}
 use Rattle.hh_states.specs.Content.{all_summaries, runs_with_former, tables_of}
 use Rattle.hh_states.specs.Reads.{runs_in}
-use Rattle.hh_states.specs.RunReads.{HoldsRuns, HoldsRunsOfDates, HoldsSummaries}
+use Rattle.hh_states.specs.RunReads.{HoldsRuns, HoldsSummaries}
 use Rattle.hh_states.specs.Runs.{Run, latest_run, run_key_cmp, runs_of_date, summary_after, with_former}
 use Rattle.hh_states.specs.States.{State}
 use Rattle.hh_states.specs.Steps.{IsReached, at_first, by_load, by_run, kinds_on, new_run, run_fault, timetable_at}
@@ -152,8 +152,15 @@ module _ (midnight : Midnights) (s : State) (date : ℕ) where
         filter_map-if (λ e. of_date e.0) shown (in_key_order run_key_cmp (all_summaries timetable s))
         ∙ ap (map shown) (read_as_they_came run_key_total exact_run_keys of_date (all_summaries timetable s) entries_rise)
 
+-- the runs of a date, each by its kind with its summary, in the order in which they were made
+abbrev pub summaries_on : Timetable → State → ℕ → List (RunKind × Summary)
+summaries_on timetable s date =
+    map (λ r. (r.1.key.kind, summary_after timetable s.history r.0 r.1))
+    (filter (λ r. r.1.key.date == date) (runs_with_former s))
+
 -- the runs of a date in the tables are the date's runs with their summaries
-pub holds_runs_of_dates : HoldsRunsOfDates
+pub holds_runs_of_dates : (midnight : Midnights) (s : State) (date : ℕ) → IsReached midnight s
+    → runs_in (tables_of midnight s) date ≡ summaries_on (timetable_at midnight s) s date
 holds_runs_of_dates midnight s date reached =
     let summarized : Option Run × Run → RunKey × Summary = entry midnight s date in
     runs_read midnight s date reached

@@ -26,7 +26,7 @@ use Rattle.hh_states.specs.Runs.{Run, periods_of, run_key_cmp, seen_by, settled_
 use Rattle.hh_states.specs.Soundness.{AreConsistent}
 use Rattle.hh_states.specs.States.{State}
 use Rattle.hh_states.specs.Steps.{IsReached, timetable_at}
-use Rattle.hh_states.specs.Sums.{CashSumsToZero, ContractsSumToZero, RunsAddUp, period_total}
+use Rattle.hh_states.specs.Sums.{CashSumsToZero, ContractsSumToZero, period_total}
 use Rattle.hh_states.proofs.KeyLaws.{result_key_total}
 use Rattle.hh_state_laws.proofs.AmountLaws.{in_key_order_moves}
 use Rattle.hh_state_laws.proofs.ApartLaws.{NoneAlike, all-map, all-weaken, distinct_blocks, first_part, have_one_key}
@@ -49,7 +49,9 @@ run_adds_up tables consistent periods =
     (all_of (λ at. AddsUp (terms_at tables at) (settled (terms_at tables at))) (period_adds_up tables consistent) periods)
 
 -- in each reached state, this holds for each of its runs
-pub runs_add_up : RunsAddUp
+pub runs_add_up : (midnight : Midnights) (s : State) → IsReached midnight s
+    → AllByRecursion (λ r. AllByRecursion (λ q. AddsUp (terms_at (seen_by (timetable_at midnight s) s.history r) q.0) q.1)
+    (settled_by (timetable_at midnight s) s.history r)) s.runs
 runs_add_up midnight s reached =
     let timetable : Timetable = timetable_at midnight s in
     all-weaken (λ r. AreConsistent (seen_by timetable s.history r))

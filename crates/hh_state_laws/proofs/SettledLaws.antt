@@ -27,11 +27,12 @@ use Rattle.hh_calc.specs.declared.result.AccountRow.{AccountRow}
 use Rattle.hh_calc.specs.declared.result.CreditRow.{CreditRow}
 use Rattle.hh_calc.specs.declared.result.Figures.{Figures}
 use Rattle.hh_calc.specs.Formulas.{all_figures, credits_of, figures, lead_credit, period_sums, residual, residual_shares, subsidiary_credit, unit_credits, weights}
-use Rattle.hh_calc.specs.Settled.{credit_cmp, figures_of, paid_by, shares_shown}
+use Rattle.hh_calc.specs.Settled.{AddsUp, credit_cmp, figures_of, paid_by, shares_shown}
 use Rattle.hh_calc.specs.Terms.{UnitDataView, PeriodDataView}
+use Rattle.hh_calc.specs.Ready.{AreInOrder, AreListed, AreUnitsDistinct}
 use Rattle.hh_calc.proofs.PeriodLaws.{adds_up}
 use Rattle.hh_states.specs.PeriodSettlement.{UnitAccount, account_rows, in_credit_order, keyed_credits, settled, unit_account_cmp}
-use Rattle.hh_states.specs.Sums.{CreditsEachOnce, SettledAddsUp, SettlesEachPeriod}
+use Rattle.hh_states.specs.Sums.{CreditsEachOnce, SettlesEachPeriod}
 use Rattle.hh_states.proofs.KeyLaws.{unit_account_total}
 use Rattle.hh_state_laws.proofs.AmountLaws.{in_key_order_moves, told_apart}
 use Rattle.hh_state_laws.proofs.ApartLaws.{NoneAlike, all-append, all-map, distinct-append, distinct-map, distinct_blocks, first_part, have_one_key, second_part}
@@ -170,5 +171,6 @@ is_settled p distinct once = record {
 }
 
 -- so it adds up
-pub settled_adds_up : SettledAddsUp
+pub settled_adds_up : (p : PeriodDataView) → AreInOrder p → AreListed p → AreUnitsDistinct p → All CreditsEachOnce p.units
+    → AddsUp p (settled p)
 settled_adds_up p up named distinct once = adds_up p (settled p) up named (is_settled p distinct once)

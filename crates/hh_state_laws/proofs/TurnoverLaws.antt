@@ -34,7 +34,6 @@ use Rattle.hh_states.specs.Amounts.{BalancesWithin, DayNetsWithin, PaidWithin, T
 use Rattle.hh_states.specs.Content.{tables_of}
 use Rattle.hh_states.specs.DaySettlement.{from_one_to, periods_on, settled_day, too_large}
 use Rattle.hh_states.specs.PeriodSettlement.{account_rows, settled, terms_at}
-use Rattle.hh_states.specs.Readiness.{IsComplete}
 use Rattle.hh_states.specs.Reads.{results_in}
 use Rattle.hh_states.specs.RunReads.{paid_in, rows_by_period}
 use Rattle.hh_states.specs.Runs.{Run, latest_run, nets_of, periods_of, seen_by, settled_by}
@@ -42,7 +41,7 @@ use Rattle.hh_states.specs.States.{State}
 use Rattle.hh_states.specs.Steps.{IsReached, at_first, by_load, by_run, new_run, run_fault, timetable_at}
 use Rattle.hh_states.specs.Sums.{latest_runs, moved_by_runs}
 use Rattle.hh_state_laws.proofs.ApartLaws.{NoneAlike, all-append, all-weaken}
-use Rattle.hh_state_laws.proofs.CompleteLaws.{none_passes, runs_complete}
+use Rattle.hh_state_laws.proofs.CompleteLaws.{IsComplete, none_passes, runs_complete}
 use Rattle.hh_state_laws.proofs.PostingLaws.{latest_run-cons}
 use Rattle.hh_state_laws.proofs.ReadyLaws.{Differ, all_both, no_more}
 use Rattle.hh_state_laws.proofs.ResultLaws.{day_nets_from_results, holds_results}

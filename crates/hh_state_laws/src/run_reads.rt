@@ -2,11 +2,9 @@
 
 ghost use Rattle.hh_states.specs.RunReads.{
   DayNetsFromResults,
-  HoldsNoOtherResults,
   HoldsPostings,
   HoldsResults,
   HoldsRuns,
-  HoldsRunsOfDates,
   HoldsSummaries,
 };
 
@@ -14,13 +12,6 @@ ghost use Rattle.hh_states.specs.RunReads.{
 #[tactic(auto, using(crate::proofs::RunReadLaws::holds_summaries))]
 pub fn kept_summaries()
     ensures { HoldsSummaries }
-{}
-
-/// In each state that the machine reaches, the runs of a date in the tables are the date's runs with their
-/// summaries, in the order in which they were made.
-#[tactic(auto, using(crate::proofs::RunReadLaws::holds_runs_of_dates))]
-pub fn kept_runs_of_dates()
-    ensures { HoldsRunsOfDates }
 {}
 
 /// In each state that the machine reaches, the kinds of the runs of a date in the tables are those of the
@@ -35,12 +26,6 @@ pub fn kept_kinds_of_dates()
 #[tactic(auto, using(crate::proofs::ResultLaws::holds_results))]
 pub fn kept_results()
     ensures { HoldsResults }
-{}
-
-/// In each state, the tables have no rows of a run that does not exist.
-#[tactic(auto, using(crate::proofs::ResultLaws::holds_no_other_results))]
-pub fn no_other_results()
-    ensures { HoldsNoOtherResults }
 {}
 
 /// In each state that the machine reaches, the sum of what `postings` answers for an account is the sum of

@@ -3,13 +3,10 @@
 ghost use Rattle.hh_states.specs.Sums.{
   CashSumsToZero,
   ContractsSumToZero,
-  CreditsSumExactly,
   DayNetsAreSums,
   EachUnitCredited,
   PostingsTotal,
   RunPostingsSumToZero,
-  RunsAddUp,
-  SettledAddsUp,
   SettlesEachPeriod,
 };
 
@@ -28,14 +25,6 @@ pub fn each_period_settled()
     ensures { SettlesEachPeriod }
 {}
 
-/// The settlement of a period adds up, if also the accounts are in order and each lead, subsidiary, seller
-/// and buyer is one of them. Contracts sum to zero, the credits from each unit to its loss-adjusted volume,
-/// and charges and shares together to zero.
-#[tactic(auto, using(crate::proofs::SettledLaws::settled_adds_up))]
-pub fn settled_adds_up()
-    ensures { SettledAddsUp }
-{}
-
 /// In each state that the machine reaches, the postings of each run in the tables sum to zero.
 #[tactic(auto, using(crate::proofs::BalanceLaws::run_postings_sum_to_zero))]
 pub fn run_postings_balance()
@@ -46,12 +35,6 @@ pub fn run_postings_balance()
 /// settles.
 pub fn day_nets_are_sums()
     ensures { DayNetsAreSums }
-{}
-
-/// In each state that the machine reaches, for each of its runs, each Settlement Period of the run's date
-/// adds up, by what was registered and in force when the run was ordered.
-pub fn runs_add_up()
-    ensures { RunsAddUp }
 {}
 
 /// In each state that the machine reaches, contracts sum to zero in each Settlement Period of each run in
@@ -66,13 +49,6 @@ pub fn contracts_sum_to_zero()
 #[tactic(auto, using(crate::proofs::RunSumLaws::cash_sums_to_zero))]
 pub fn cash_sums_to_zero()
     ensures { CashSumsToZero }
-{}
-
-/// In each state that the machine reaches, the credits in the tables from each unit sum to its
-/// loss-adjusted volume, in each Settlement Period of each run, by the reading that counted when the run
-/// was ordered.
-pub fn credits_sum_exactly()
-    ensures { CreditsSumExactly }
 {}
 
 /// Each unit is credited by its reading. In each state that the machine reaches, take each run, each

@@ -1,22 +1,19 @@
 -- What the reading calls answer about the runs of a state, from the tables that represent it.
-use Rattle.std.specs.Prelude.{◌≡◌, ℕ, ◌==◌, ℤ, List, [], map, filter, Some, None}
+use Rattle.std.specs.Prelude.{◌≡◌, ℕ, ℤ, List, map, Some}
 use Rattle.std.specs.FinMap.{find}
 use Rattle.std.specs.List.{AllByRecursion, flat_map}
 use Rattle.hh_rules.specs.Totals.{total}
 use Rattle.hh_rules.specs.Days.{Midnights}
 use Rattle.hh_rules.specs.account.Account.{Account}
 use Rattle.hh_rules.specs.settlement_period.SettlementPeriod.{SettlementPeriod}
-use Rattle.hh_rules.specs.Lateness.{Timetable}
 use Rattle.hh_calc.specs.declared.result.AccountRow.{AccountRow}
 use Rattle.hh_calc.specs.Settled.{moved_by_row}
 use Rattle.hh_calc.specs.Terms.{Settled}
-use Rattle.hh_runs.specs.declared.run_kind.RunKind.{RunKind}
-use Rattle.hh_runs.specs.declared.summary.Summary.{Summary}
 use Rattle.hh_runs.specs.DayNets.{day_net_of}
 use Rattle.hh_runs.specs.declared.run_key.RunKey.{RunKey}
-use Rattle.hh_states.specs.Content.{runs_with_former, tables_of}
+use Rattle.hh_states.specs.Content.{tables_of}
 use Rattle.hh_states.specs.Reads.{postings_in, results_in, runs_in}
-use Rattle.hh_states.specs.Runs.{Run, nets_of, run_key_cmp, settled_by, summary_after}
+use Rattle.hh_states.specs.Runs.{Run, nets_of, run_key_cmp, settled_by}
 use Rattle.hh_states.specs.States.{State}
 use Rattle.hh_states.specs.Steps.{IsReached, kept_summary, kinds_on, timetable_at}
 use Rattle.hh_states.specs.Sums.{moved_by_runs}
@@ -26,18 +23,7 @@ abbrev pub HoldsSummaries : Type 0
 HoldsSummaries = (midnight : Midnights) (s : State) (key : RunKey)
     → find run_key_cmp key (tables_of midnight s).runs ≡ kept_summary midnight s key
 
--- the runs of a date, each by its kind with its summary, in the order in which they were made
-abbrev pub summaries_on : Timetable → State → ℕ → List (RunKind × Summary)
-summaries_on timetable s date =
-    map (λ r. (r.1.key.kind, summary_after timetable s.history r.0 r.1))
-    (filter (λ r. r.1.key.date == date) (runs_with_former s))
-
--- the runs of a date in the tables of a reached state are the date's runs with their summaries, in that order
-abbrev pub HoldsRunsOfDates : Type 0
-HoldsRunsOfDates = (midnight : Midnights) (s : State) (date : ℕ) → IsReached midnight s
-    → runs_in (tables_of midnight s) date ≡ summaries_on (timetable_at midnight s) s date
-
--- so their kinds are those of the date's runs, in the order in which these were made
+-- the kinds of a date's runs in the tables of a reached state are those of its runs, in the order in which these were made
 abbrev pub HoldsRuns : Type 0
 HoldsRuns = (midnight : Midnights) (s : State) (date : ℕ) → IsReached midnight s
     → map (λ r. r.0) (runs_in (tables_of midnight s) date) ≡ kinds_on s date
@@ -54,11 +40,6 @@ rows_in_run midnight s run = rows_by_period (settled_by (timetable_at midnight s
 abbrev pub HoldsResults : Type 0
 HoldsResults = (midnight : Midnights) (s : State) → IsReached midnight s
     → AllByRecursion (λ r. results_in (tables_of midnight s) r.key ≡ rows_in_run midnight s r) s.runs
-
--- the tables of a state have no rows of a run that does not exist
-abbrev pub HoldsNoOtherResults : Type 0
-HoldsNoOtherResults = (midnight : Midnights) (s : State) (key : RunKey)
-    → kept_summary midnight s key ≡ None → results_in (tables_of midnight s) key ≡ []
 
 -- the postings to an account in the tables of a reached state sum to what the latest runs of all dates move to it
 abbrev pub HoldsPostings : Type 0

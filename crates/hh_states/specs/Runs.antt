@@ -3,6 +3,7 @@
 use Rattle.std.specs.Prelude.{ℕ, ◌==◌, List, [], ◌∷◌, ◌++◌, filter, take, length, Option, Some, None}
 use Rattle.std.specs.Ordering.{nat_cmp, on, then_cmp}
 use Rattle.std.specs.declared.cmp.Ordering.{Ordering}
+pub use Rattle.hh_rules.specs.Ends.{last_of}
 use Rattle.hh_rules.specs.Totals.{total}
 use Rattle.hh_rules.specs.Days.{Midnights, period_count}
 use Rattle.hh_rules.specs.account.Account.{Account}
@@ -29,12 +30,6 @@ pub record Run : Type 0 where
 -- the runs of a date, in the order in which they were made
 abbrev pub runs_of_date : ℕ → List Run → List Run
 runs_of_date date runs = filter (λ r. r.key.date == date) runs
-
--- the last of a list
-abbrev pub last_of : {X : Type 0} → List X → Option X
-last_of [] = None
-last_of (x ∷ []) = Some x
-last_of (x ∷ y ∷ xs) = last_of (y ∷ xs)
 
 -- the latest run of a date
 abbrev pub latest_run : ℕ → List Run → Option Run

@@ -1,7 +1,6 @@
 -- Properties of all that is registered and in force, however the files came.
 use Rattle.std.specs.Prelude.{◌≡◌, ◌≢◌, ℕ, ◌≤◌, ◌≤ℤ◌, List, length, Some, IsSome, IsTrue}
 use Rattle.std.specs.FinMap.{find}
-use Rattle.std.specs.List.{AllByRecursion}
 use Rattle.hh_rules.specs.Quantities.{hundred_percent}
 use Rattle.hh_rules.specs.Tables.{IsTable}
 use Rattle.hh_rules.specs.Days.{Midnights}
@@ -18,9 +17,8 @@ use Rattle.hh_rules.specs.History.{Registered}
 use Rattle.hh_rules.specs.Leads.{lead_on}
 use Rattle.hh_rules.specs.Percents.{percent_at}
 use Rattle.hh_rules.specs.Refusals.{most_parties, most_units}
-use Rattle.hh_states.specs.Runs.{seen_by}
 use Rattle.hh_states.specs.States.{State}
-use Rattle.hh_states.specs.Steps.{IsReached, registered_at, timetable_at}
+use Rattle.hh_states.specs.Steps.{IsReached, registered_at}
 
 -- no more parties and units are registered than there may be, the reference of each contract in force is fixed, and at most 100
 -- percent of a unit is in force in a Settlement Period
@@ -95,8 +93,3 @@ ConsistentStates = (midnight : Midnights) (s : State) → IsReached midnight s �
 -- and it is sound
 abbrev pub SoundStates : Type 0
 SoundStates = (midnight : Midnights) (s : State) → IsReached midnight s → AreSound (registered_at midnight s)
-
--- and for each run of such a state, what was registered and in force when the run was ordered is consistent
-abbrev pub ConsistentRuns : Type 0
-ConsistentRuns = (midnight : Midnights) (s : State) → IsReached midnight s
-    → AllByRecursion (λ r. AreConsistent (seen_by (timetable_at midnight s) s.history r)) s.runs

@@ -12,9 +12,9 @@ use Rattle.hh_rules.specs.settlement_period.SettlementPeriod.{SettlementPeriod}
 use Rattle.hh_rules.specs.History.{History, Registered}
 use Rattle.hh_rules.specs.Lateness.{Timetable}
 use Rattle.hh_calc.specs.declared.result.AccountRow.{AccountRow}
-use Rattle.hh_calc.specs.Formulas.{loss_adjusted, if_same_account}
-use Rattle.hh_calc.specs.Ready.{AreInOrder, AreListed, AreUnitsDistinct}
-use Rattle.hh_calc.specs.Settled.{AddsUp, IsSettled, paid_by}
+use Rattle.hh_calc.specs.Formulas.{if_same_account}
+use Rattle.hh_calc.specs.Ready.{AreUnitsDistinct}
+use Rattle.hh_calc.specs.Settled.{IsSettled, paid_by}
 use Rattle.hh_calc.specs.Terms.{UnitDataView, PeriodDataView}
 use Rattle.hh_runs.specs.DayNets.{day_net_of}
 use Rattle.hh_runs.specs.declared.run_key.RunKey.{RunKey}
@@ -22,7 +22,7 @@ use Rattle.hh_states.specs.declared.run_keys.CreditKey.{CreditKey}
 use Rattle.hh_states.specs.declared.run_keys.PostingKey.{PostingKey}
 use Rattle.hh_states.specs.Content.{runs_with_former, tables_of}
 use Rattle.hh_states.specs.DaySettlement.{day_net}
-use Rattle.hh_states.specs.PeriodSettlement.{reading_of, settled, terms_at, units_on}
+use Rattle.hh_states.specs.PeriodSettlement.{reading_of, settled, units_on}
 use Rattle.hh_states.specs.Reads.{results_in}
 use Rattle.hh_states.specs.Runs.{Run, latest_run, nets_of, periods_of, postings_after, run_key_cmp, seen_by, settled_by}
 use Rattle.hh_states.specs.States.{State}
@@ -76,18 +76,6 @@ abbrev pub SettlesEachPeriod : Type 0
 SettlesEachPeriod =
     (p : PeriodDataView) → AreUnitsDistinct p → All CreditsEachOnce p.units → IsSettled p (settled p)
 
--- so it adds up, if also the accounts are in order and each lead, subsidiary, seller and buyer is among them
-abbrev pub SettledAddsUp : Type 0
-SettledAddsUp =
-    (p : PeriodDataView) → AreInOrder p → AreListed p → AreUnitsDistinct p → All CreditsEachOnce p.units
-    → AddsUp p (settled p)
-
--- in each state that the machine reaches, each Settlement Period that a run settles adds up, by what the run saw
-abbrev pub RunsAddUp : Type 0
-RunsAddUp = (midnight : Midnights) (s : State) → IsReached midnight s
-    → AllByRecursion (λ r. AllByRecursion (λ q. AddsUp (terms_at (seen_by (timetable_at midnight s) s.history r) q.0) q.1)
-    (settled_by (timetable_at midnight s) s.history r)) s.runs
-
 -- the sum of an amount over the rows of a Settlement Period, out of the rows of a run
 abbrev pub period_total : (AccountRow → ℤ) → ℕ → List (ℕ × AccountRow) → ℤ
 period_total amount period rows = total (λ r. if r.0 == period then amount r.1 else pos 0) rows
@@ -106,14 +94,6 @@ CashSumsToZero = (midnight : Midnights) (s : State) (run : RunKey) (period : ℕ
 abbrev pub credited_from : List ℕ → ℕ → RunKey → Table CreditKey ℤ → ℤ
 credited_from unit period run credits =
     total (λ e. if eq_by_cmp run_key_cmp e.0.run run && (e.0.period == period) && bytes_eq e.0.unit unit then e.1 else pos 0) credits
-
--- In the tables of a reached state, the credits from each unit in each Settlement Period of each run sum to the unit's
--- loss-adjusted volume, by the reading that counted when the run was ordered.
-abbrev pub CreditsSumExactly : Type 0
-CreditsSumExactly = (midnight : Midnights) (s : State) → IsReached midnight s
-    → AllByRecursion (λ r. AllByRecursion (λ at. All
-    (λ u. credited_from u.unit at.period r.key (tables_of midnight s).credits ≡ loss_adjusted u)
-    (terms_at (seen_by (timetable_at midnight s) s.history r) at).units) (periods_of midnight r)) s.runs
 
 -- A unit has a reading that counts in a Settlement Period. In a run, the credits from the unit in that period sum to the metered
 -- energy of the reading times its loss multiplier.

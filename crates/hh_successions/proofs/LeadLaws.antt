@@ -24,7 +24,7 @@ use Rattle.hh_rows.specs.declared.rows.LeadTerm.{LeadTerm}
 use Rattle.hh_rows.specs.declared.rows.UnitRegistration.{UnitRegistration}
 use Rattle.hh_rows.proofs.KeyLaws.{exact_lead_keys, lead_key_total}
 use Rattle.hh_registrations.specs.declared.unit_change.FormerLead.TheVariants as former
-use Rattle.hh_registrations.specs.Registrations.{Lead, Leads, beside_former, former_lead, is_begun, is_of, last_begun, last_registration, widened}
+use Rattle.hh_registrations.specs.Registrations.{Lead, Leads, beside_former, former_lead, is_begun, is_of_unit, last_begun, last_registration, widened}
 use Rattle.hh_registrations.proofs.KeyLaws.{at, begins_before, dates_apart, units_apart}
 use Rattle.hh_registrations.proofs.UpToLaws.{one_unit}
 use Rattle.hh_rules.proofs.HistoryLaws.{filter-append}
@@ -57,7 +57,7 @@ pub record AreOf (leads : Leads) (unit : List ℕ) (known : UnitRegistration) : 
 -- a table with the key of a unit's last registration
 module _ (leads : Leads) (rising : T (is_sorted lead_key_cmp leads)) (unit : List ℕ) (start : ℕ) (term : LeadTerm)
     (last : find lead_key_cmp (at unit start) leads ≡ Some term) (most : (from : ℕ) → IsSome (find lead_key_cmp (at unit from) leads) → from ≤ start) where
-  none_later : (q : LeadKey) → is_of unit q ≡ true → IsSome (find lead_key_cmp q leads) → lead_key_cmp (at unit start) q ≡ Less → ⊥
+  none_later : (q : LeadKey) → is_of_unit unit q ≡ true → IsSome (find lead_key_cmp q leads) → lead_key_cmp (at unit start) q ≡ Less → ⊥
   none_later q own there above =
       let same : q.unit ≡ unit = one_unit q.unit unit own in
       let low : q.from ≤ start = most q.from (subst (λ u. IsSome (find lead_key_cmp (at u q.from) leads)) same there) in
@@ -66,21 +66,21 @@ module _ (leads : Leads) (rising : T (is_sorted lead_key_cmp leads)) (unit : Lis
 
   -- it is the unit's last registration
   pub last_is : last_registration leads unit ≡ Some (at unit start, term)
-  last_is = greatest lead_key_total exact_lead_keys (is_of unit) (at unit start) term leads rising last (is_this unit) none_later
+  last_is = greatest lead_key_total exact_lead_keys (is_of_unit unit) (at unit start) term leads rising last (is_this unit) none_later
 
   -- and the one on each date from its first on
   pub last_holds : (date : ℕ) → start ≤ date → last_begun leads unit date ≡ Some (at unit start, term)
   last_holds date begun =
       greatest lead_key_total exact_lead_keys (is_begun unit date) (at unit start) term leads rising last
-      (and_from (is_of unit (at unit start)) (nat_le start date) (is_this unit) (le-leb start date begun))
-      (λ q own there above. none_later q (and_parts (is_of unit q) (nat_le q.from date) own).0 there above)
+      (and_from (is_of_unit unit (at unit start)) (nat_le start date) (is_this unit) (le-leb start date begun))
+      (λ q own there above. none_later q (and_parts (is_of_unit unit q) (nat_le q.from date) own).0 there above)
 
 -- a registration that begins after a date, or of another unit, is not begun on it
 pub not_begun : (unit : List ℕ) (date from : ℕ) → date < from → is_begun unit date (at unit from) ≡ false
 not_begun unit date from late =
-    elim (nat_le from date) as (λ b. nat_le from date ≡ b → (is_of unit (at unit from) && b) ≡ false) [
+    elim (nat_le from date) as (λ b. nat_le from date ≡ b → (is_of_unit unit (at unit from) && b) ≡ false) [
       | true ↦ λ is. (let low : from ≤ date = leb-true from date is in absurd (omega arith))
-      | false ↦ λ is. elim (is_of unit (at unit from)) as (λ b. (b && false) ≡ false) [ true ↦ refl | false ↦ refl ]
+      | false ↦ λ is. elim (is_of_unit unit (at unit from)) as (λ b. (b && false) ≡ false) [ true ↦ refl | false ↦ refl ]
     ] refl
 
 not_of : (unit other : List ℕ) (date from : ℕ) → eq_by_cmp bytes_cmp unit other ≡ false → is_begun unit date (at other from) ≡ false
@@ -280,7 +280,7 @@ module _ (rows : UnitRows) (leads : Leads) (rising : T (is_sorted lead_key_cmp l
 
   pub first_is : with_registration unit new leads ≡ first_leads
   first_is = ap (λ (xs : Leads). put lead_key_cmp (lead_key unit new) (lead_term new) (beside_former (former_lead (last_of xs) new) leads))
-      (none_pass lead_key_total exact_lead_keys (is_of unit) leads (λ q of_unit. ap (λ u. find lead_key_cmp (at u q.from) leads) (one_unit q.unit unit of_unit) ∙ was.0 q.from))
+      (none_pass lead_key_total exact_lead_keys (is_of_unit unit) leads (λ q of_unit. ap (λ u. find lead_key_cmp (at u q.from) leads) (one_unit q.unit unit of_unit) ∙ was.0 q.from))
 
   pub first_elsewhere : SameElsewhere unit leads first_leads
   first_elsewhere = put_elsewhere unit leads rising new.range.from (lead_term new)

@@ -23,7 +23,7 @@ use Rattle.hh_rows.specs.declared.rows.Row.TheVariants as row
 use Rattle.hh_rows.specs.declared.rows.UnitRegistration.{UnitRegistration}
 use Rattle.hh_rows.specs.declared.rows.UnitRow.{UnitRow}
 use Rattle.hh_rows.proofs.KeyLaws.{exact_lead_keys, lead_key_total}
-use Rattle.hh_registrations.specs.Registrations.{Lead, Leads, RegistrationsView, is_begun, is_of, last_begun, no_registrations, registration_on, unless_ended, widened, with_unit}
+use Rattle.hh_registrations.specs.Registrations.{Lead, Leads, RegistrationsView, is_begun, is_of_unit, last_begun, no_registrations, registration_on, unless_ended, widened, with_unit_row}
 use Rattle.hh_registrations.proofs.KeyLaws.{at}
 use Rattle.hh_registrations.proofs.UpToLaws.{one_unit}
 use Rattle.hh_rules.specs.Entries.{unit_entry}
@@ -32,7 +32,7 @@ use Rattle.hh_rules.specs.Lateness.{Timetable, Accepted, timing_of}
 use Rattle.hh_rules.specs.Refusals.{is_some_that}
 use Rattle.hh_rules.proofs.HistoryLaws.{entries_of-append}
 use Rattle.hh_successions.specs.RegistrationHistory.{IsAcceptedBy, LeadsLookBack, LeadsStay, RegistersRowByRow, UnitsLookBack, is_row_on, no_rows, one_more, refusal_by, registered_with_units, registrations_from, registrations_in, registrations_with}
-use Rattle.hh_successions.specs.SuccessionRefusals.{is_moved, is_shrunk, last_lead, lead_of, refusals_by_leads, unit_refusals_by_leads}
+use Rattle.hh_successions.specs.SuccessionRefusals.{is_shrunk, is_unit_moved_by_leads, last_lead, lead_of, refusals_by_leads, unit_refusals_by_leads}
 use Rattle.hh_successions.proofs.LeadLaws.{AreOf, IsKept, SameElsewhere, UnitRows, first_elsewhere, first_is, first_kept, last_holds, last_known, others_kept, row_on, row_on-append, succeeded_elsewhere, succeeded_is, succession_kept, widened_elsewhere, widened_is, widening_kept, with_registration}
 use Rattle.hh_successions.proofs.RowFacts.{holds_from, last_at, succeeds, widens}
 
@@ -105,9 +105,9 @@ module _ (tables : Registered) (registered : RegistrationsView) (same : tables.u
     in_range = subst (λ last. is_shrunk known last new ≡ false) last_is_at
         (not_passed (λ (u : UnitRegistration). is_shrunk u (last_lead registered.leads r.unit u) new) (find bytes_cmp r.unit tables.units) known unmet.1.1.0 is_in)
 
-    pub in_place : is_moved known (last_at r.unit before.0.start known) new ≡ false
-    in_place = subst (λ last. is_moved known last new ≡ false) last_is_at
-        (not_passed (λ (u : UnitRegistration). is_moved u (last_lead registered.leads r.unit u) new) (find bytes_cmp r.unit tables.units) known unmet.1.1.1.0 is_in)
+    pub in_place : is_unit_moved_by_leads known (last_at r.unit before.0.start known) new ≡ false
+    in_place = subst (λ last. is_unit_moved_by_leads known last new ≡ false) last_is_at
+        (not_passed (λ (u : UnitRegistration). is_unit_moved_by_leads u (last_lead registered.leads r.unit u) new) (find bytes_cmp r.unit tables.units) known unmet.1.1.1.0 is_in)
 
     further_step : Stepped (Some known)
     further_step = elim (is_same_account known.lead new.lead) as (λ b. is_same_account known.lead new.lead ≡ b → Stepped (Some known)) [
@@ -127,7 +127,7 @@ module _ (tables : Registered) (registered : RegistrationsView) (same : tables.u
   own_step (Some known) is = further_step known is (subst (IsKept rows registered.leads r.unit) is (was.kept r.unit))
 
   -- what is kept of each unit
-  pub unit_row_kept : AreKept rows_then (with_unit r registered)
+  pub unit_row_kept : AreKept rows_then (with_unit_row r registered)
   unit_row_kept =
       let known : Option UnitRegistration = find bytes_cmp r.unit registered.units in
       let step = own_step known refl in
@@ -135,8 +135,8 @@ module _ (tables : Registered) (registered : RegistrationsView) (same : tables.u
         rising = step.1.rising;
         kept = λ unit.
             elim (eq_by_cmp bytes_cmp unit r.unit) as (λ b. eq_by_cmp bytes_cmp unit r.unit ≡ b
-            → find bytes_cmp unit (with_unit r registered).units ≡ cond b (Some (widened known new)) (find bytes_cmp unit registered.units)
-            → IsKept rows_then leads_then unit (find bytes_cmp unit (with_unit r registered).units)) [
+            → find bytes_cmp unit (with_unit_row r registered).units ≡ cond b (Some (widened known new)) (find bytes_cmp unit registered.units)
+            → IsKept rows_then leads_then unit (find bytes_cmp unit (with_unit_row r registered).units)) [
               | true ↦ λ tied is.
                   subst (IsKept rows_then leads_then unit) (sym is)
                   (subst (λ u. IsKept rows_then leads_then u (Some (widened known new))) (sym (exact_bytes unit r.unit ((Equal-is (bytes_cmp unit r.unit)).0 tied))) step.0)
@@ -184,7 +184,7 @@ module _ (leads : Leads) (unit : List ℕ) (date : ℕ) where
       none_at : (q : LeadKey) → is_begun unit date q ≡ true → (o : Option _) → find lead_key_cmp q leads ≡ o → o ≡ None
       none_at q begun None found = refl
       none_at q begun (Some t) found =
-          let parts = and_parts (is_of unit q) (nat_le q.from date) begun in
+          let parts = and_parts (is_of_unit unit q) (nat_le q.from date) begun in
           let own : q.unit ≡ unit = one_unit q.unit unit parts.0 in
           absurd (later q.from (ap is_some (ap (λ u. find lead_key_cmp (at u q.from) leads) (sym own) ∙ found)) (leb-true q.from date parts.1))
 

@@ -17,14 +17,14 @@ use Rattle.hh_names.proofs.AccountLaws.{bytes_total}
 use Rattle.hh_rows.specs.declared.rows.Row.TheVariants as row
 use Rattle.hh_rows.specs.declared.rows.UnitRegistration.{UnitRegistration}
 use Rattle.hh_rows.specs.declared.rows.UnitRow.{UnitRow}
-use Rattle.hh_registrations.specs.Registrations.{RegistrationsView, widened, with_unit}
+use Rattle.hh_registrations.specs.Registrations.{RegistrationsView, widened, with_unit_row}
 use Rattle.hh_rules.specs.Entries.{unit_entry}
 use Rattle.hh_rules.specs.History.{History, Registered, entries_of}
 use Rattle.hh_rules.specs.Lateness.{Timetable, Accepted, timing_of}
 use Rattle.hh_rules.specs.Refusals.{is_same_mark}
 use Rattle.hh_rules.proofs.HistoryLaws.{entries_of-append}
 use Rattle.hh_successions.specs.RegistrationHistory.{IsAcceptedBy, MarksAlike, no_rows, one_more, refusal_by, registered_with_units, registrations_in, registrations_with}
-use Rattle.hh_successions.specs.SuccessionRefusals.{is_moved, last_lead, refusals_by_leads, unit_refusals_by_leads}
+use Rattle.hh_successions.specs.SuccessionRefusals.{is_unit_moved_by_leads, last_lead, refusals_by_leads, unit_refusals_by_leads}
 use Rattle.hh_successions.proofs.LeadLaws.{UnitRows}
 use Rattle.hh_successions.proofs.LookBackLaws.{NoneMet, none_met, not_passed, row_by_row}
 
@@ -58,8 +58,8 @@ module _ (tables : Registered) (registered : RegistrationsView) (same : tables.u
 
   mark_kept : (u : UnitRegistration) → known ≡ Some u → new.interconnector ≡ u.interconnector
   mark_kept u is =
-      let in_place : is_moved u (last_lead registered.leads r.unit u) new ≡ false =
-      not_passed (λ (x : UnitRegistration). is_moved x (last_lead registered.leads r.unit x) new) (find bytes_cmp r.unit tables.units) u unmet.1.1.1.0 (ap (find bytes_cmp r.unit) same ∙ is) in
+      let in_place : is_unit_moved_by_leads u (last_lead registered.leads r.unit u) new ≡ false =
+      not_passed (λ (x : UnitRegistration). is_unit_moved_by_leads x (last_lead registered.leads r.unit x) new) (find bytes_cmp r.unit tables.units) u unmet.1.1.1.0 (ap (find bytes_cmp r.unit) same ∙ is) in
       one_mark u.interconnector new.interconnector (not-false (is_same_mark u.interconnector new.interconnector) (or_parts _ _ in_place).0)
 
   own_marks : (o : Option UnitRegistration) → known ≡ o → HaveMark rows r.unit o → HaveMark (rows ++ (r.unit, new) ∷ []) r.unit (Some (widened o new))
@@ -73,11 +73,11 @@ module _ (tables : Registered) (registered : RegistrationsView) (same : tables.u
   other_marks unit apart (Some u) all = all_more (λ e. eq_by_cmp bytes_cmp unit e.0 ≡ true → e.1.interconnector ≡ u.interconnector) (λ e. eq_by_cmp bytes_cmp unit e.0 ≡ true → e.1.interconnector ≡ u.interconnector) rows (r.unit, new)
       (λ e same. same) all (λ own. absurd (false_is_not_true (sym apart ∙ own)))
 
-  pub marks_row : HaveMarks (rows ++ (r.unit, new) ∷ []) (with_unit r registered).units
+  pub marks_row : HaveMarks (rows ++ (r.unit, new) ∷ []) (with_unit_row r registered).units
   marks_row unit =
       elim (eq_by_cmp bytes_cmp unit r.unit) as (λ b. eq_by_cmp bytes_cmp unit r.unit ≡ b
-      → find bytes_cmp unit (with_unit r registered).units ≡ cond b (Some (widened known new)) (find bytes_cmp unit registered.units)
-      → HaveMark (rows ++ (r.unit, new) ∷ []) unit (find bytes_cmp unit (with_unit r registered).units)) [
+      → find bytes_cmp unit (with_unit_row r registered).units ≡ cond b (Some (widened known new)) (find bytes_cmp unit registered.units)
+      → HaveMark (rows ++ (r.unit, new) ∷ []) unit (find bytes_cmp unit (with_unit_row r registered).units)) [
         | true ↦ λ same is. subst (HaveMark (rows ++ (r.unit, new) ∷ []) unit) (sym is)
             (subst (λ u. HaveMark (rows ++ (r.unit, new) ∷ []) u (Some (widened known new))) (sym (exact_bytes unit r.unit ((Equal-is (bytes_cmp unit r.unit)).0 same))) (own_marks known refl (was r.unit)))
         | false ↦ λ apart is. subst (HaveMark (rows ++ (r.unit, new) ∷ []) unit) (sym is) (other_marks unit apart (find bytes_cmp unit registered.units) (was unit))

@@ -15,7 +15,7 @@ use Rattle.hh_rows.specs.declared.keys.ReallocationKey.{ReallocationKey}
 use Rattle.hh_rows.specs.declared.rows.Row.{Row}
 use Rattle.hh_rows.specs.declared.rows.Row.TheVariants as row
 use Rattle.hh_rows.specs.declared.rows.UnitRegistration.{UnitRegistration}
-use Rattle.hh_registrations.specs.Registrations.{RegistrationsView, no_registrations, registered_lead_on, with_unit}
+use Rattle.hh_registrations.specs.Registrations.{RegistrationsView, no_registrations, registered_lead_on, with_unit_row}
 use Rattle.hh_rules.specs.Entries.{unit_entry}
 use Rattle.hh_rules.specs.History.{History, Registered, entries_of, registered_in}
 use Rattle.hh_rules.specs.Lateness.{Timetable, Accepted, timing_of}
@@ -26,7 +26,7 @@ use Rattle.hh_successions.specs.SuccessionRefusals.{RowRule}
 
 -- what is registered of units after one more row: only rows of units change it
 abbrev pub registrations_with : Row → RegistrationsView → RegistrationsView
-registrations_with (row.Unit r) registered = with_unit r registered
+registrations_with (row.Unit r) registered = with_unit_row r registered
 registrations_with _ registered = registered
 
 abbrev pub registrations_from : RegistrationsView → History → RegistrationsView

@@ -43,8 +43,8 @@ module _ (known : UnitRegistration) (last : Lead) (new : UnitRegistration) where
 
   -- 40: the mark differs; or it is a widening that begins earlier than the last of several registrations; or it is a succession that
   -- doesn't begin later than the last registration, or begins later than the day after the unit's range
-  abbrev pub is_moved : Bool
-  is_moved =
+  abbrev pub is_unit_moved_by_leads : Bool
+  is_unit_moved_by_leads =
       not (is_same_mark known.interconnector new.interconnector)
       || (if is_widening last new then nat_lt new.range.from last.0.from && has_several
       else nat_le new.range.from last.0.from || nat_lt (known.range.to + 1) new.range.from)
@@ -70,7 +70,7 @@ module _ (tables : Registered) (leads : Leads) where
       (refusal.UnknownParty, is_none lead_party)
       ∷ (refusal.NotEffective, is_some_that (λ p. not (is_inside new.range p.range)) lead_party)
       ∷ (refusal.ShrinksRange, is_some_that (λ u. is_shrunk u (last_lead leads r.unit u) new) known)
-      ∷ (refusal.UnitMoved, is_some_that (λ u. is_moved u (last_lead leads r.unit u) new) known)
+      ∷ (refusal.UnitMoved, is_some_that (λ u. is_unit_moved_by_leads u (last_lead leads r.unit u) new) known)
       ∷ (refusal.LeadIsSubsidiary, is_some_that (λ u. is_subsidiary_put_first r (last_lead leads r.unit u)) known)
       ∷ (refusal.TooMany, is_none known && nat_le most_units standing.unit_count)
       ∷ []

@@ -46,10 +46,6 @@ is_some-cond : {A : Type 0} (b : Bool) (x : A) (o : Option A) → is_some (cond 
 is_some-cond true x o = refl
 is_some-cond false x o = refl
 
-or_false : (b : Bool) → (b || false) ≡ b
-or_false true = refl
-or_false false = refl
-
 or_swap : (a b c : Bool) → (a || (b || c)) ≡ (b || (a || c))
 or_swap true true c = refl
 or_swap true false c = refl
@@ -77,9 +73,6 @@ module _ {K V : Type 0} {R : K → K → Ordering} (o : IsTotalOrder R) where
 
   -- one more row: its key has the row, and each other key has what it had before
   module _ (e : K × V) (q : K) where
-    goal_at : Option V → Option V → Type 0
-    goal_at now before = now ≡ cond (eq_by_cmp R q e.0) (Some e.1) before
-
     pub find-latest-append : (es : List (K × V)) → find R q (latest R (es ++ e ∷ [])) ≡ cond (eq_by_cmp R q e.0) (Some e.1) (find R q (latest R es))
     find-latest-append [] = refl
     find-latest-append (x ∷ es) =

@@ -52,7 +52,8 @@ impl<K: Ord + Copy, V> ListTable<K, V> {
 
     /// The rows, in the order of their keys.
     pub fn rows(&self) -> &[(K, V)]
-        ensures { result.now ≡ self.now }
+        ensures value { result.now ≡ self.now }
+        ensures rising { IsTable K.cmp self.now }
     {
         &self.rows
     }

@@ -4,7 +4,6 @@ ghost use Rattle.std.specs.Prelude.{◌≡◌, ◌≤◌, min, length, Ok, None,
 
 use hh_devices::*;
 use std::io::{self, Cursor, ErrorKind, Read, Write};
-use std::test::Fail;
 
 /// The answer to writing a whole text to a sink, how many bytes it has taken by then, and how often it
 /// failed.
@@ -13,46 +12,53 @@ fn whole_write(sink: &mut MemorySink, text: &[u8]) -> (Result<(), DeviceFailed>,
     (done, sink.taken().len(), sink.failures())
 }
 
-#[test]
-fn memory_sinks_take_up_to_their_room(rt: HostRuntime) -> Result<(), Fail> {
-    let mut sink = MemorySink::with_room(rt.alloc(), 10)?;
-    assert_eq!(rt; whole_write(&mut sink, b"abcdef"), (Ok(()), 6, 0));
-    let full = (Err(DeviceFailed), 10, 1);
-    assert_eq!(rt; whole_write(&mut sink, b"ghijklm"), full);
-    assert_eq!(rt; sink.taken(), b"abcdefghij".as_slice());
-    Ok(())
+/// Whether a sink with room for ten bytes takes the first ten of thirteen, and fails.
+fn takes_ten(sink: &mut MemorySink) -> bool {
+    whole_write(sink, b"abcdef") == (Ok(()), 6, 0)
+        && whole_write(sink, b"ghijklm") == (Err(DeviceFailed), 10, 1)
+        && sink.taken() == b"abcdefghij".as_slice()
 }
 
 #[test]
-fn memory_sinks_fail_once_in_mid_stream(rt: HostRuntime) -> Result<(), Fail> {
+fn memory_sinks_take_up_to_their_room(rt: HostRuntime) {
+    let mut sink = MemorySink::with_room(rt.alloc(), 10);
+    assert!(rt; sink.as_mut().is_ok_and(|sink| takes_ten(sink)));
+}
+
+/// Whether a sink that fails after so many bytes takes what comes behind that.
+fn fails_once(sink: MemorySink, count: usize) -> bool {
+    let mut sink = sink.in_pieces(4).failing_after(count);
+    whole_write(&mut sink, b"abcdef") == (Err(DeviceFailed), count, 1)
+        && whole_write(&mut sink, b"XY") == (Ok(()), count.saturating_add(2), 1)
+}
+
+#[test]
+fn memory_sinks_fail_once_in_mid_stream(rt: HostRuntime) {
     for count in 0..6 {
-        let mut sink = MemorySink::with_room(rt.alloc(), 100)?
-            .in_pieces(4)
-            .failing_after(count);
-        let failed = (Err(DeviceFailed), count, 1);
-        assert_eq!(rt; whole_write(&mut sink, b"abcdef"), failed);
-        assert_eq!(rt; whole_write(&mut sink, b"XY"), (Ok(()), count + 2, 1));
+        let sink = MemorySink::with_room(rt.alloc(), 100);
+        assert!(rt; sink.is_ok_and(|sink| fails_once(sink, count)));
     }
-    Ok(())
+}
+
+/// Whether the next read of a source comes to this, with this byte first in the buffer.
+fn reads(source: &mut MemorySource<'_>, wanted: Result<usize, DeviceFailed>, first: u8) -> bool {
+    let mut buffer = [first; 8];
+    source.read(&mut buffer) == wanted && buffer[0] == first
 }
 
 #[test]
-fn memory_sources_give_pieces_and_fail_once(rt: HostRuntime) -> Result<(), Fail> {
+fn memory_sources_give_pieces_and_fail_once(rt: HostRuntime) {
     let mut source = MemorySource::new(b"abcdef").in_pieces(4).failing_after(5);
-    let mut buffer = [0u8; 8];
-    let reads = [
+    for (wanted, first) in [
         (Ok(4), b'a'),
         (Ok(1), b'e'),
         (Err(DeviceFailed), b'e'),
         (Ok(1), b'f'),
         (Ok(0), b'f'),
-    ];
-    for (wanted, first) in reads {
-        assert_eq!(rt; source.read(&mut buffer), wanted);
-        assert_eq!(rt; buffer[0], first);
+    ] {
+        assert!(rt; reads(&mut source, wanted, first));
     }
     assert_eq!(rt; source.failures(), 1);
-    Ok(())
 }
 
 /// A stream of std that fails at its second call.
@@ -89,43 +95,63 @@ impl Read for Unsteady {
     }
 }
 
-#[test]
-fn streams_of_std_are_devices(rt: HostRuntime) -> Result<(), Fail> {
-    let mut sink = StreamSink::new(Vec::new(rt.alloc()));
-    assert_eq!(rt; write_whole(&mut sink, b"one,two\n"), Ok(()));
-    assert_eq!(rt; sink.failures(), 0);
-    assert_eq!(rt; sink.into_inner().as_slice(), b"one,two\n".as_slice());
+/// Whether a list takes a whole text.
+fn list_takes(list: Vec<u8>, text: &[u8]) -> bool {
+    let mut sink = StreamSink::new(list);
+    let done = write_whole(&mut sink, text);
+    done == Ok(()) && sink.failures() == 0 && sink.into_inner().as_slice() == text
+}
 
-    let mut full = StreamSink::new(Cursor::new([0u8; 4]));
-    assert_eq!(rt; write_whole(&mut full, b"abcdef"), Err(DeviceFailed));
-    assert_eq!(rt; full.failures(), 1);
-    assert_eq!(rt; full.into_inner().into_inner(), *b"abcd");
+/// Whether a buffer of four bytes takes the first four of a text, and fails.
+fn buffer_takes(text: &[u8]) -> bool {
+    let mut sink = StreamSink::new(Cursor::new([0u8; 4]));
+    let done = write_whole(&mut sink, text);
+    done == Err(DeviceFailed)
+        && sink.failures() == 1
+        && text.starts_with(&sink.into_inner().into_inner())
+}
 
+/// Whether a source gives a text of three bytes, and then nothing more.
+fn gives(text: &[u8]) -> bool {
     let mut buffer = [0u8; 8];
-    let mut source = StreamSource::new(Cursor::new(b"abc".as_slice()));
-    assert_eq!(rt; source.read(&mut buffer), Ok(3));
-    assert_eq!(rt; &buffer[..3], b"abc".as_slice());
-    assert_eq!(rt; source.read(&mut buffer), Ok(0));
-    assert_eq!(rt; source.failures(), 0);
-    Ok(())
+    let mut source = StreamSource::new(Cursor::new(text));
+    source.read(&mut buffer) == Ok(3)
+        && &buffer[..3] == text
+        && source.read(&mut buffer) == Ok(0)
+        && source.failures() == 0
 }
 
 #[test]
-fn failing_streams_are_counted(rt: HostRuntime) -> Result<(), Fail> {
-    let mut sink = StreamSink::new(Unsteady { calls: 0 });
-    assert_eq!(rt; sink.write(b"abcdef"), Ok(3));
-    assert_eq!(rt; sink.write(b"def"), Err(DeviceFailed));
-    assert_eq!(rt; sink.write(b"def"), Ok(3));
-    assert_eq!(rt; sink.failures(), 1);
+fn streams_of_std_are_devices(rt: HostRuntime) {
+    assert!(&rt; list_takes(Vec::new(rt.alloc()), b"one,two\n"));
+    assert!(&rt; buffer_takes(b"abcdef"));
+    assert!(&rt; gives(b"abc"));
+}
 
+/// Whether a sink fails once, at its second write.
+fn sink_fails_once() -> bool {
+    let mut sink = StreamSink::new(Unsteady { calls: 0 });
+    sink.write(b"abcdef") == Ok(3)
+        && sink.write(b"def") == Err(DeviceFailed)
+        && sink.write(b"def") == Ok(3)
+        && sink.failures() == 1
+}
+
+/// Whether a source fails once, at its second read.
+fn source_fails_once() -> bool {
     let mut buffer = [0u8; 8];
     let mut source = StreamSource::new(Unsteady { calls: 0 });
-    assert_eq!(rt; source.read(&mut buffer), Ok(3));
-    assert_eq!(rt; source.read(&mut buffer), Err(DeviceFailed));
-    assert_eq!(rt; source.read(&mut buffer), Ok(3));
-    assert_eq!(rt; source.failures(), 1);
-    assert_eq!(rt; source.into_inner().calls, 3);
-    Ok(())
+    source.read(&mut buffer) == Ok(3)
+        && source.read(&mut buffer) == Err(DeviceFailed)
+        && source.read(&mut buffer) == Ok(3)
+        && source.failures() == 1
+        && source.into_inner().calls == 3
+}
+
+#[test]
+fn failing_streams_are_counted(rt: HostRuntime) {
+    assert!(&rt; sink_fails_once());
+    assert!(&rt; source_fails_once());
 }
 
 /// A writer that is known completely: it takes at most three bytes in a call.
@@ -152,12 +178,16 @@ fn slow_write(sink: &mut StreamSink<Slow>, bytes: &[u8]) -> Result<usize, Device
     sink.write(bytes)
 }
 
-#[test]
-fn known_writers_give_known_sinks(rt: HostRuntime) -> Result<(), Fail> {
+/// Whether writes to a sink come to what is known of its writer, which is called twice.
+fn is_known() -> bool {
     let mut sink = StreamSink::new(Slow { calls: 0 });
-    assert_eq!(rt; slow_write(&mut sink, b"abcdef"), Ok(3));
-    assert_eq!(rt; slow_write(&mut sink, b"de"), Ok(2));
-    assert_eq!(rt; sink.failures(), 0);
-    assert_eq!(rt; sink.into_inner().calls, 2);
-    Ok(())
+    slow_write(&mut sink, b"abcdef") == Ok(3)
+        && slow_write(&mut sink, b"de") == Ok(2)
+        && sink.failures() == 0
+        && sink.into_inner().calls == 2
+}
+
+#[test]
+fn known_writers_give_known_sinks(rt: HostRuntime) {
+    assert!(rt; is_known());
 }

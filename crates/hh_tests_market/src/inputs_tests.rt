@@ -13,20 +13,22 @@ fn front_is(alloc: Global, most: usize, bytes: &[u8]) -> bool {
     read_front(alloc, &mut source, most).is_ok_and(|read| read.as_slice() == bytes)
 }
 
+/// How many bytes of a source are read, and what is given.
+const FRONTS: [(usize, &[u8]); 4] = [(0, b""), (4, b"abcd"), (6, b"abcdef"), (9, b"abcdef")];
+
+/// Whether a source that fails after three bytes can't be read, and has failed once.
+fn is_unreadable(alloc: Global) -> bool {
+    let mut failing = MemorySource::new(b"abcdef").failing_after(3);
+    read_front(alloc, &mut failing, 6).is_err_and(|fault| fault == InputFault::Unreadable)
+        && failing.failures() == 1
+}
+
 #[test]
 fn fronts_of_sources(rt: HostRuntime) {
-    for (most, bytes) in [
-        (0, b"".as_slice()),
-        (4, b"abcd".as_slice()),
-        (6, b"abcdef".as_slice()),
-        (9, b"abcdef".as_slice()),
-    ] {
-        assert!(rt; front_is(rt.alloc(), most, bytes), "{most}");
+    for (most, bytes) in FRONTS {
+        assert!(&rt; front_is(rt.alloc(), most, bytes), "{most}");
     }
-    let mut failing = MemorySource::new(b"abcdef").failing_after(3);
-    let read = read_front(rt.alloc(), &mut failing, 6).map(|read| read.len());
-    assert_eq!(rt; read, Err(InputFault::Unreadable));
-    assert_eq!(rt; failing.failures(), 1);
+    assert!(&rt; is_unreadable(rt.alloc()));
 }
 
 #[test]

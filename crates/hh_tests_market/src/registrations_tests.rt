@@ -5,8 +5,7 @@ use hh_names::{Account, UnitId};
 use hh_registrations::Registrations;
 use hh_rows::{DateRange, UnitRegistration, UnitRow};
 use hh_time::SettlementDate;
-use std::alloc::{AllocError, Global};
-use std::test::Fail;
+use std::alloc::Global;
 
 /// A row of the unit S1 that gives it a lead account from a date on.
 fn row_from(lead: &[u8], from: &[u8]) -> Option<UnitRow> {
@@ -21,54 +20,52 @@ fn row_from(lead: &[u8], from: &[u8]) -> Option<UnitRow> {
     })
 }
 
-/// What is registered after rows of S1 with these lead accounts and first dates, if they are rows.
-fn registered(alloc: Global, rows: &[(&[u8], &[u8])]) -> Result<Option<Registrations>, AllocError> {
-    let mut registrations = Registrations::new(alloc);
-    for (lead, from) in rows {
-        let Some(row) = row_from(lead, from) else {
-            return Ok(None);
-        };
-        registrations.put(row)?;
+/// A lead account of S1 and the date from which on a row gives it.
+type Lead = (&'static [u8], &'static [u8]);
+
+/// Registers rows of S1 with these lead accounts and first dates. Nothing if memory is refused, or if these
+/// are no rows.
+fn register(registrations: &mut Registrations, leads: &[Lead]) -> Option<()> {
+    for (lead, from) in leads {
+        let row = row_from(lead, from)?;
+        registrations.put(row).ok()?;
     }
-    Ok(Some(registrations))
+    Some(())
 }
 
-/// The account that leads S1 on a date after such rows, if there is one.
-fn lead_on(
-    alloc: Global,
-    rows: &[(&[u8], &[u8])],
-    date: &[u8],
-) -> Result<Option<Account>, AllocError> {
-    let registrations = registered(alloc, rows)?;
-    Ok(lead_by(&registrations, date))
-}
-
-/// The account that leads S1 on a date, if anything is registered and there is one.
-fn lead_by(registrations: &Option<Registrations>, date: &[u8]) -> Option<Account> {
-    let Some(registrations) = registrations else {
-        return None;
-    };
+/// The account that leads S1 on a date, if there is one.
+fn lead_by(registrations: &Registrations, date: &[u8]) -> Option<Account> {
     registrations.registered_lead_on(&UnitId::read(b"S1")?, SettlementDate::read(date)?)
 }
 
+/// Whether the account of a text, or none, leads S1 on a date after rows.
+fn leads(alloc: Global, rows: &[Lead], date: &[u8], lead: &[u8]) -> bool {
+    let mut registrations = Registrations::new(alloc);
+    register(&mut registrations, rows).is_some()
+        && lead_by(&registrations, date) == Account::read(lead)
+}
+
+const FIRST: Lead = (b"SUPCO-C", b"2024-01-01");
+
+const SECOND: Lead = (b"NEWCO-C", b"2024-07-01");
+
+const WIDER: Lead = (b"SUPCO-C", b"2023-07-01");
+
+/// Rows of S1, a date, and the text of the account that leads S1 then, or an empty one.
+const CASES: [(&[Lead], &[u8], &[u8]); 8] = [
+    (&[FIRST], b"2023-12-31", b""),
+    (&[FIRST], b"2024-01-01", b"SUPCO-C"),
+    (&[FIRST], b"2099-12-31", b"SUPCO-C"),
+    (&[FIRST, SECOND], b"2024-06-30", b"SUPCO-C"),
+    (&[FIRST, SECOND], b"2024-07-01", b"NEWCO-C"),
+    (&[FIRST, SECOND], b"2023-12-31", b""),
+    (&[FIRST, WIDER], b"2023-12-31", b"SUPCO-C"),
+    (&[FIRST, WIDER, SECOND], b"2024-06-30", b"SUPCO-C"),
+];
+
 #[test]
-fn who_leads_a_unit_on_a_date(rt: HostRuntime) -> Result<(), Fail> {
-    let first: (&[u8], &[u8]) = (b"SUPCO-C", b"2024-01-01");
-    let second: (&[u8], &[u8]) = (b"NEWCO-C", b"2024-07-01");
-    let wider: (&[u8], &[u8]) = (b"SUPCO-C", b"2023-07-01");
-    let cases: [(&[(&[u8], &[u8])], &[u8], &[u8]); 8] = [
-        (&[first], b"2023-12-31", b""),
-        (&[first], b"2024-01-01", b"SUPCO-C"),
-        (&[first], b"2099-12-31", b"SUPCO-C"),
-        (&[first, second], b"2024-06-30", b"SUPCO-C"),
-        (&[first, second], b"2024-07-01", b"NEWCO-C"),
-        (&[first, second], b"2023-12-31", b""),
-        (&[first, wider], b"2023-12-31", b"SUPCO-C"),
-        (&[first, wider, second], b"2024-06-30", b"SUPCO-C"),
-    ];
-    for (rows, date, lead) in &cases {
-        let found = lead_on(rt.alloc(), rows, date)?;
-        assert!(rt; found == Account::read(lead));
+fn who_leads_a_unit_on_a_date(rt: HostRuntime) {
+    for (rows, date, lead) in CASES {
+        assert!(rt; leads(rt.alloc(), rows, date, lead));
     }
-    Ok(())
 }

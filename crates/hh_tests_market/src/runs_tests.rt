@@ -3,15 +3,18 @@
 use hh_names::Account;
 use hh_runs::*;
 use std::alloc::Global;
-use std::test::Fail;
 
-/// Day nets of these accounts, in pence. `None` if a text names no account, a net is too large, or
-/// memory is refused.
+/// The day net of an account, in pence. `None` if the text names no account, or the net is too large.
+fn net_of(account: &str, pence: i64) -> Option<(Account, DayNet)> {
+    Some((Account::read(account.as_bytes())?, DayNet::new(pence)?))
+}
+
+/// Day nets of these accounts. `None` also if memory is refused.
 fn nets(alloc: Global, pence: &[(&str, i64)]) -> Option<DayNetTable> {
     let mut nets = DayNetTable::new(alloc);
     for net in pence {
-        let account = Account::read(net.0.as_bytes())?;
-        nets.put_row(account, DayNet::new(net.1)?).ok()?;
+        let (account, net) = net_of(net.0, net.1)?;
+        nets.put_row(account, net).ok()?;
     }
     Some(nets)
 }
@@ -21,10 +24,7 @@ fn posts(alloc: Global, old: &[(&str, i64)], new: &[(&str, i64)], wanted: &[(&st
     let (Some(old), Some(new)) = (nets(alloc, old), nets(alloc, new)) else {
         return false;
     };
-    match differences(alloc, &old, &new) {
-        Ok(postings) => are_postings(&postings, wanted),
-        Err(_) => false,
-    }
+    differences(alloc, &old, &new).is_ok_and(|postings| are_postings(&postings, wanted))
 }
 
 /// Whether these are the postings of the wanted pence to the wanted accounts.
@@ -36,15 +36,16 @@ fn are_postings(postings: &[Posting], wanted: &[(&str, i64)]) -> bool {
         })
 }
 
+/// What four accounts paid by a run.
+const FORMER: [(&str, i64); 4] = [
+    ("GENCO-P", 38),
+    ("GENCO-C", 0),
+    ("SUPCO-P", 0),
+    ("SUPCO-C", -38),
+];
+
 #[test]
-fn accounts_that_are_gone_are_posted_back(rt: HostRuntime) -> Result<(), Fail> {
-    let first = [
-        ("GENCO-P", 38),
-        ("GENCO-C", 0),
-        ("SUPCO-P", 0),
-        ("SUPCO-C", -38),
-    ];
+fn accounts_that_are_gone_are_posted_back(rt: HostRuntime) {
     let back = [("GENCO-P", -38), ("SUPCO-C", 38)];
-    assert!(rt; posts(rt.alloc(), &first, &[], &back));
-    Ok(())
+    assert!(rt; posts(rt.alloc(), &FORMER, &[], &back));
 }

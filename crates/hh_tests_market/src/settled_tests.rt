@@ -8,46 +8,52 @@ use std::alloc::Global;
 use std::test::Fail;
 
 /// The accounts of two parties, in account order.
-fn accounts(alloc: Global) -> Option<Vec<Account>> {
-    let mut accounts = Vec::new(alloc);
-    for name in ["GENCO-P", "GENCO-C", "SUPCO-P", "SUPCO-C"] {
-        accounts.push(Account::read(name.as_bytes())?).ok()?;
-    }
-    Some(accounts)
+fn accounts() -> Option<[Account; 4]> {
+    Some([
+        Account::read(b"GENCO-P")?,
+        Account::read(b"GENCO-C")?,
+        Account::read(b"SUPCO-P")?,
+        Account::read(b"SUPCO-C")?,
+    ])
 }
 
-/// The net volumes of accounts.
-fn nets(alloc: Global, volumes: &[i64]) -> Option<Contracts> {
-    let mut nets = Vec::new(alloc);
-    for kwh in volumes {
-        nets.push(NetKwh::new(*kwh)?).ok()?;
-    }
-    Some(Contracts::Net(nets))
+/// Net volumes.
+fn nets(kwh: [i64; 5]) -> Option<[NetKwh; 5]> {
+    Some([
+        NetKwh::new(kwh[0])?,
+        NetKwh::new(kwh[1])?,
+        NetKwh::new(kwh[2])?,
+        NetKwh::new(kwh[3])?,
+        NetKwh::new(kwh[4])?,
+    ])
 }
 
 /// A contract of GENCO-C with itself.
-fn own_contract(alloc: Global) -> Option<Contracts> {
+fn own_contract() -> Option<Contract> {
     let own = Account::read(b"GENCO-C")?;
-    let mut rows = Vec::new(alloc);
-    rows.push(Contract {
+    Some(Contract {
         counterparties: Counterparties {
             seller: own,
             buyer: own,
         },
         volume: Kwh::new(7)?,
     })
-    .ok()?;
-    Some(Contracts::Rows(rows))
 }
 
 /// A period with these contracts and nothing else, at a price of 50 pounds.
-fn contracts_alone(alloc: Global, contracts: Contracts) -> Option<PeriodData> {
-    Some(PeriodData::new(
-        accounts(alloc)?,
-        Vec::new(alloc),
-        contracts,
-        Price::new(5_000_000)?,
-    ))
+fn contracts_alone(alloc: Global, contracts: Contracts) -> Result<PeriodData, Fail> {
+    let accounts = accounts().ok_or("accounts")?;
+    let price = Price::new(5_000_000).ok_or("price")?;
+    let accounts = Vec::from_slice(alloc, &accounts)?;
+    Ok(PeriodData::new(accounts, Vec::new(alloc), contracts, price))
+}
+
+/// Whether a period may be settled of which the first so many of five net volumes are known.
+fn may_be_settled(alloc: Global, kwh: [i64; 5], count: usize) -> Result<bool, Fail> {
+    let nets = nets(kwh).ok_or("nets")?;
+    let known = nets.get(..count).unwrap_or_default();
+    let nets = Contracts::Net(Vec::from_slice(alloc, known)?);
+    Ok(contracts_alone(alloc, nets)?.is_ready())
 }
 
 /// A period, settled, if it may be settled.
@@ -64,28 +70,32 @@ fn is_idle(row: &AccountRow) -> bool {
     row.contracts.units() == 0 && row.charge.units() == 0 && row.share.units() == 0
 }
 
+/// Whether all accounts are idle in a period with one contract.
+fn are_idle_by(alloc: Global, contract: Contract) -> Result<bool, Fail> {
+    let contracts = Contracts::Rows(Vec::from_slice(alloc, &[contract])?);
+    let period = contracts_alone(alloc, contracts)?;
+    let result = settled(alloc, &period).ok().flatten();
+    Ok(result.is_some_and(|found| found.accounts().iter().all(|row| is_idle(row))))
+}
+
 #[test]
 fn a_contract_with_itself_changes_nothing(rt: HostRuntime) -> Result<(), Fail> {
-    let contracts = own_contract(rt.alloc()).ok_or("contracts")?;
-    let period = contracts_alone(rt.alloc(), contracts).ok_or("period")?;
-    let result = settled(rt.alloc(), &period)?.ok_or("not ready")?;
-    assert!(rt; result.accounts().iter().all(|row| is_idle(row)));
+    let contract = own_contract().ok_or("contract")?;
+    assert!(rt; are_idle_by(rt.alloc(), contract)?);
     Ok(())
 }
 
 #[test]
 fn nets_stand_one_for_each_account_and_come_to_nothing(rt: HostRuntime) -> Result<(), Fail> {
-    let cases: [(&[i64], bool); 5] = [
-        (&[0, 0, 0, 0], true),
-        (&[100_000_000_000, -100_000_000_000, 5, -5], true),
-        (&[1, 0, 0, 0], false),
-        (&[1, 0, -1], false),
-        (&[1, 0, 0, -1, 0], false),
+    let cases = [
+        ([0, 0, 0, 0, 0], 4, true),
+        ([100_000_000_000, -100_000_000_000, 5, -5, 0], 4, true),
+        ([1, 0, 0, 0, 0], 4, false),
+        ([1, 0, -1, 0, 0], 3, false),
+        ([1, 0, 0, -1, 0], 5, false),
     ];
-    for (volumes, is_ready) in cases {
-        let volumes = nets(rt.alloc(), volumes).ok_or("nets")?;
-        let period = contracts_alone(rt.alloc(), volumes).ok_or("period")?;
-        assert_eq!(rt; period.is_ready(), is_ready);
+    for (kwh, count, is_ready) in cases {
+        assert_eq!(rt; may_be_settled(rt.alloc(), kwh, count)?, is_ready);
     }
     Ok(())
 }

@@ -1,24 +1,43 @@
 //! What no clause says and no program shows: that what went out over a connection in memory is kept, and
 //! that a reader is read as often as allowed.
 
-use hh_devices::{DeviceFailed, Sink, Source, StreamSource};
+use hh_devices::{DeviceFailed, MemorySink, Sink, Source, StreamSource};
 use hh_sockets::*;
 use std::cell::RefCell;
 use std::io::Cursor;
-use std::test::Fail;
 
-/// Answers one connection with its first bytes, and finishes it, saying how much of it was read.
-fn answer_one<L: Listener>(listener: &mut L, received: Received) -> Result<usize, SocketFailed> {
-    let mut connection = listener.accept()?;
+/// Answers a connection with its first bytes. How many there are.
+fn echo<K: Sink, S: Source>(sink: &mut K, source: &mut S) -> usize {
     let mut piece = [0u8; 5];
-    let read = connection.source.read(&mut piece).unwrap_or(0);
-    let written = connection.sink.write(&piece[..read]).unwrap_or(0);
-    listener.close(connection, received);
+    let read = source.read(&mut piece).unwrap_or(0);
+    sink.write(&piece[..read]).unwrap_or(0)
+}
+
+/// Answers one connection with its first bytes, and finishes it, saying that all of it was read.
+fn answer_one<L: Listener>(listener: &mut L) -> Result<usize, SocketFailed> {
+    let mut connection = listener.accept()?;
+    let written = echo(&mut connection.sink, &mut connection.source);
+    listener.close(connection, Received::Whole);
     Ok(written)
 }
 
+/// Whether a listener has this port, and two connections in their order.
+fn are_answered<L: Listener>(listener: &mut L) -> bool {
+    listener.port() == 8080
+        && answer_one(listener) == Ok(5)
+        && answer_one(listener) == Ok(3)
+        && answer_one(listener) == Err(SocketFailed)
+}
+
+/// Whether these are the replies.
+fn are_kept(replies: &[MemorySink]) -> bool {
+    replies.len() == 2
+        && replies[0].taken() == b"hello".as_slice()
+        && replies[1].taken() == b"bye".as_slice()
+}
+
 #[test]
-fn connections_in_memory_come_in_their_order(rt: HostRuntime) -> Result<(), Fail> {
+fn connections_in_memory_come_in_their_order(rt: HostRuntime) {
     let connections: [&[u8]; 2] = [b"hello, there", b"bye"];
     let ports = [MemoryPort {
         port: 8080,
@@ -31,37 +50,29 @@ fn connections_in_memory_come_in_their_order(rt: HostRuntime) -> Result<(), Fail
         room: 16,
         replies: &replies,
     };
-    assert_eq!(&rt; loopback.listen(80).is_err(), true);
-    let Ok(mut listener) = loopback.listen(0) else {
-        assert_eq!(&rt; "a port in memory", "none");
-        return Ok(());
-    };
-    assert_eq!(&rt; listener.port(), 8080);
-    assert_eq!(&rt; answer_one(&mut listener, Received::Whole), Ok(5));
-    assert_eq!(&rt; answer_one(&mut listener, Received::Whole), Ok(3));
-    assert_eq!(&rt;
-        answer_one(&mut listener, Received::Whole),
-        Err(SocketFailed)
+    assert!(&rt; loopback.listen(80).is_err());
+    assert!(&rt;
+        loopback
+            .listen(0)
+            .is_ok_and(|mut listener| are_answered(&mut listener))
     );
-    let Ok(kept) = replies.try_borrow() else {
-        assert_eq!(&rt; "replies", "lent");
-        return Ok(());
-    };
-    assert_eq!(&rt; kept.len(), 2);
-    assert_eq!(&rt; kept[0].taken(), b"hello".as_slice());
-    assert_eq!(&rt; kept[1].taken(), b"bye".as_slice());
-    Ok(())
+    assert!(&rt; replies.try_borrow().is_ok_and(|kept| are_kept(&kept)));
+}
+
+/// Whether a reader that may be read twice gives four bytes, and then fails.
+fn fails_behind(source: &mut StreamSource<CountedReader<Cursor<&[u8]>>>) -> bool {
+    let mut piece = [0u8; 2];
+    source.read(&mut piece) == Ok(2)
+        && source.read(&mut piece) == Ok(2)
+        && source.read(&mut piece) == Err(DeviceFailed)
+        && source.read(&mut piece) == Err(DeviceFailed)
+        && source.failures() == 2
 }
 
 #[test]
-fn a_counted_reader_fails_once_its_reads_are_made(rt: HostRuntime) -> Result<(), Fail> {
+fn a_counted_reader_fails_once_its_reads_are_made(rt: HostRuntime) {
     let hello = Cursor::new(b"hello".as_slice());
     let mut source = StreamSource::new(CountedReader::new(hello, 2));
-    let mut piece = [0u8; 2];
-    for wanted in [Ok(2), Ok(2), Err(DeviceFailed), Err(DeviceFailed)] {
-        assert_eq!(rt; source.read(&mut piece), wanted);
-    }
-    assert_eq!(rt; source.failures(), 2);
-    assert_eq!(rt; source.into_inner().reads_left(), 0);
-    Ok(())
+    assert!(&rt; fails_behind(&mut source));
+    assert_eq!(&rt; source.into_inner().reads_left(), 0);
 }

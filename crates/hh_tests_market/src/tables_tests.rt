@@ -3,28 +3,22 @@
 
 use hh_tables::ListTable;
 use std::alloc::{AllocError, Global};
-use std::test::Fail;
 
-/// Rows with these keys.
-fn rows_of(alloc: Global, keys: &[u32]) -> Result<Vec<(u32, bool)>, AllocError> {
-    let mut rows = Vec::new(alloc);
-    for key in keys {
-        rows.push((*key, true))?;
-    }
-    Ok(rows)
-}
+/// A row with a key.
+type KeyedRow = (u32, bool);
 
-/// How many rows the table of rows with these keys has, if they are a table.
-fn length_of(alloc: Global, keys: &[u32]) -> Result<Option<usize>, AllocError> {
-    let rows = rows_of(alloc, keys)?;
+/// How many rows the table of these rows has, if they are a table.
+fn length_of(alloc: Global, rows: &[KeyedRow]) -> Result<Option<usize>, AllocError> {
+    let rows = Vec::from_slice(alloc, rows)?;
     Ok(ListTable::of_rows(rows).map(|table| table.len()))
 }
 
-/// How many rows a table has that had the keys 2 and 5, after rows with these keys are put behind it, if
-/// they come behind, and it is cut back to at most three rows.
-fn length_behind(alloc: Global, keys: &[u32]) -> Result<Option<usize>, AllocError> {
-    let mut table = ListTable::new(alloc).with_rows(alloc, rows_of(alloc, &[5, 2])?)?;
-    let rows = rows_of(alloc, keys)?;
+/// How many rows a table has that had the keys 2 and 5, after these rows are put behind it, if they come
+/// behind, and it is cut back to at most three rows.
+fn length_behind(alloc: Global, rows: &[KeyedRow]) -> Result<Option<usize>, AllocError> {
+    let first = Vec::from_slice(alloc, &[(5, true), (2, true)])?;
+    let mut table = ListTable::new(alloc).with_rows(alloc, first)?;
+    let rows = Vec::from_slice(alloc, rows)?;
     if !table.come_behind(&rows) {
         return Ok(None);
     }
@@ -33,33 +27,33 @@ fn length_behind(alloc: Global, keys: &[u32]) -> Result<Option<usize>, AllocErro
     Ok(Some(table.len()))
 }
 
+/// Rows, and how many rows their table has.
+const RISING: [(&[KeyedRow], Option<usize>); 4] = [
+    (&[], Some(0)),
+    (&[(2, true), (5, true), (9, true)], Some(3)),
+    (&[(2, true), (9, true), (5, true)], None),
+    (&[(2, true), (2, true)], None),
+];
+
+/// Rows, and how many rows the other table then has.
+const BEHIND: [(&[KeyedRow], Option<usize>); 5] = [
+    (&[], Some(2)),
+    (&[(6, true)], Some(3)),
+    (&[(6, true), (7, true)], Some(3)),
+    (&[(5, true), (6, true)], None),
+    (&[(7, true), (6, true)], None),
+];
+
 #[test]
-fn rows_that_rise_are_a_table(rt: HostRuntime) -> Result<(), Fail> {
-    let cases: [(&[u32], Option<usize>); 4] = [
-        (&[], Some(0)),
-        (&[2, 5, 9], Some(3)),
-        (&[2, 9, 5], None),
-        (&[2, 2], None),
-    ];
-    for (keys, length) in cases {
-        let found = length_of(rt.alloc(), keys);
-        assert!(rt; found.is_ok_and(|found| found == length));
+fn rows_that_rise_are_a_table(rt: HostRuntime) {
+    for (rows, length) in RISING {
+        assert!(rt; length_of(rt.alloc(), rows) == Ok(length));
     }
-    Ok(())
 }
 
 #[test]
-fn rows_are_put_behind_a_table(rt: HostRuntime) -> Result<(), Fail> {
-    let cases: [(&[u32], Option<usize>); 5] = [
-        (&[], Some(2)),
-        (&[6], Some(3)),
-        (&[6, 7], Some(3)),
-        (&[5, 6], None),
-        (&[7, 6], None),
-    ];
-    for (keys, length) in cases {
-        let found = length_behind(rt.alloc(), keys);
-        assert!(rt; found.is_ok_and(|found| found == length));
+fn rows_are_put_behind_a_table(rt: HostRuntime) {
+    for (rows, length) in BEHIND {
+        assert!(rt; length_behind(rt.alloc(), rows) == Ok(length));
     }
-    Ok(())
 }

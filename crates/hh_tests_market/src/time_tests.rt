@@ -5,42 +5,72 @@ use jiff::civil::Date;
 use jiff::tz::TimeZone;
 use std::test::Fail;
 
+/// The number of the fault of a date's day in a zone, or 0.
+fn fault_of_day(date: Date, zone: &TimeZone<'_>) -> u8 {
+    match day_of(date, zone) {
+        Ok(_) => 0,
+        Err(fault) => fault.number(),
+    }
+}
+
+/// Whether a date has this number, if it has one, and no other date has it.
+fn has_number(date: Date, number: Result<i32, TimeFault>) -> bool {
+    day_number(date) == number
+        && match number {
+            Ok(number) => date_at(number) == Ok(date),
+            Err(_) => true,
+        }
+}
+
 #[test]
 fn odd_day(rt: HostRuntime) -> Result<(), Fail> {
     let zone = TimeZone::posix("AAA0BBB-2,M3.5.0/1,M10.5.0/3")?;
-    let date = Date::new(2024, 3, 31)?;
-    assert!(rt; day_of(date, &zone).err() == Some(TimeFault::OddDay));
-    assert!(rt; day_of(Date::new(2024, 3, 30)?, &zone).is_ok());
+    for (day, fault) in [(31, TimeFault::OddDay.number()), (30, 0)] {
+        assert_eq!(rt; fault_of_day(Date::new(2024, 3, day)?, &zone), fault);
+    }
     Ok(())
 }
 
 #[test]
-fn numbers_of_faults(rt: HostRuntime) -> Result<(), Fail> {
-    assert!(rt; TimeFault::OutOfRange.number() == 1);
-    assert!(rt; TimeFault::OddDay.number() == 2);
-    assert!(rt; TimeFault::Memory.number() == 3);
-    Ok(())
+fn numbers_of_faults(rt: HostRuntime) {
+    for (fault, number) in [
+        (TimeFault::OutOfRange, 1),
+        (TimeFault::OddDay, 2),
+        (TimeFault::Memory, 3),
+    ] {
+        assert_eq!(rt; fault.number(), number);
+    }
 }
 
 #[test]
 fn ends_of_the_range(rt: HostRuntime) -> Result<(), Fail> {
     let zone = london();
-    let before = Date::new(2000, 12, 31)?;
-    let first = Date::new(2001, 1, 1)?;
-    let last = Date::new(2099, 12, 31)?;
-    let after = Date::new(2100, 1, 1)?;
-    assert!(rt; day_of(before, &zone).err() == Some(TimeFault::OutOfRange));
-    assert!(rt; day_of(after, &zone).err() == Some(TimeFault::OutOfRange));
-    assert!(rt; day_of(first, &zone).is_ok());
-    assert!(rt; day_of(last, &zone).ok() == Day::of(SettlementDate::last(), &zone));
-    assert!(rt; day_number(before) == Err(TimeFault::OutOfRange));
-    assert!(rt; day_number(first) == Ok(11_323));
-    assert!(rt; day_number(last) == Ok(47_481));
-    assert!(rt; day_number(after) == Err(TimeFault::OutOfRange));
-    assert!(rt; date_at(11_322).is_err());
-    assert!(rt; date_at(11_323).ok() == Some(first));
-    assert!(rt; date_at(47_481).ok() == Some(last));
-    assert!(rt; date_at(47_482).is_err());
-    assert!(rt; date_at(-1).is_err());
+    let outside = Err(TimeFault::OutOfRange);
+    let cases = [
+        (2000, 12, 31, 1, outside),
+        (2001, 1, 1, 0, Ok(11_323)),
+        (2099, 12, 31, 0, Ok(47_481)),
+        (2100, 1, 1, 1, outside),
+    ];
+    for (year, month, day, fault, number) in cases {
+        let date = Date::new(year, month, day)?;
+        assert_eq!(rt; fault_of_day(date, &zone), fault);
+        assert!(rt; has_number(date, number));
+    }
+    for number in [11_322, 47_482, -1] {
+        assert!(rt; date_at(number).is_err());
+    }
+    Ok(())
+}
+
+/// The day of a date, if it has one.
+fn day_on(date: Date, zone: &TimeZone<'_>) -> Option<Day> {
+    day_of(date, zone).ok()
+}
+
+#[test]
+fn the_last_day(rt: HostRuntime) -> Result<(), Fail> {
+    let date = Date::new(2099, 12, 31)?;
+    assert!(rt; day_on(date, &london()) == Day::of(SettlementDate::last(), &london()));
     Ok(())
 }

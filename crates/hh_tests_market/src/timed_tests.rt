@@ -7,7 +7,6 @@ use hh_sockets::{TimeLimit, TimedStream};
 use std::cell::Cell;
 use std::io;
 use std::net::OpenStream;
-use std::test::Fail;
 use std::time::{Clock, Duration};
 
 /// A clock that tells the milliseconds that it was set to, or nothing; and how long the last call of a
@@ -99,69 +98,97 @@ fn write_at<'a>(
     Some(times.wait.get()?.as_millis())
 }
 
+/// What a stream may wait at a time that the clock tells, or that it doesn't tell.
+type Step = (Option<u64>, Option<u128>);
+
+/// A stream whose time is limited as a client's is.
+type Client<'a> = TimedStream<'a, Patient<'a>, Times>;
+
+/// Whether reads may wait so long at these times.
+fn reads_wait<'a>(times: &'a Times, stream: &mut Client<'a>, steps: &[Step]) -> bool {
+    for (now, wait) in steps {
+        if read_at(times, stream, *now) != *wait {
+            return false;
+        }
+    }
+    true
+}
+
+/// Whether writes may wait so long at these times.
+fn writes_wait<'a>(times: &'a Times, stream: &mut Client<'a>, steps: &[Step]) -> bool {
+    for (now, wait) in steps {
+        if write_at(times, stream, *now) != *wait {
+            return false;
+        }
+    }
+    true
+}
+
+/// A request has thirty seconds.
+const OF_A_REQUEST: [Step; 5] = [
+    (Some(119_000), Some(10_000)),
+    (Some(120_001), Some(9_999)),
+    (Some(129_999), Some(1)),
+    (Some(130_000), None),
+    (Some(500_000), None),
+];
+
+/// Its time is over, so half a second is left after its reply, whenever that comes.
+const BEHIND_ITS_TIME: [Step; 2] = [(Some(500_100), Some(400)), (Some(500_500), None)];
+
 #[test]
-fn a_request_has_thirty_seconds(rt: HostRuntime) -> Result<(), Fail> {
+fn a_request_has_thirty_seconds(rt: HostRuntime) {
     let times = Times::new();
     let mut stream = TimedStream::new(Patient(&times), &times, TimeLimit::of_a_client());
     times.now.set(Some(100_000));
     stream.begin();
-    let steps = [
-        (119_000, Some(10_000)),
-        (120_001, Some(9_999)),
-        (129_999, Some(1)),
-        (130_000, None),
-        (500_000, None),
-    ];
-    for (now, wait) in steps {
-        assert_eq!(&rt; read_at(&times, &mut stream, Some(now)), wait);
-    }
-
-    // Its time is over, so half a second is left after its reply, whenever that comes.
+    assert!(&rt; reads_wait(&times, &mut stream, &OF_A_REQUEST));
     let mut stream = stream.behind();
-    for (now, wait) in [(500_100, Some(400)), (500_500, None)] {
-        assert_eq!(&rt; read_at(&times, &mut stream, Some(now)), wait);
-    }
-    Ok(())
+    assert!(&rt; reads_wait(&times, &mut stream, &BEHIND_ITS_TIME));
 }
 
+/// What is left of thirty seconds counts behind a reply.
+const BEHIND_A_REPLY: [Step; 3] = [
+    (Some(34_000), Some(500)),
+    (Some(35_200), Some(300)),
+    (Some(35_500), None),
+];
+
 #[test]
-fn what_is_left_of_thirty_seconds_counts_behind_a_reply(rt: HostRuntime) -> Result<(), Fail> {
+fn what_is_left_of_thirty_seconds_counts_behind_a_reply(rt: HostRuntime) {
     let times = Times::new();
     let mut stream = TimedStream::new(Patient(&times), &times, TimeLimit::of_a_client());
-    assert_eq!(&rt; read_at(&times, &mut stream, Some(5_000)), Some(10_000));
+    assert!(&rt; reads_wait(&times, &mut stream, &[(Some(5_000), Some(10_000))]));
     let mut stream = stream.behind();
-    for (now, wait) in [(34_000, Some(500)), (35_200, Some(300)), (35_500, None)] {
-        assert_eq!(&rt; read_at(&times, &mut stream, Some(now)), wait);
-    }
-    Ok(())
+    assert!(&rt; reads_wait(&times, &mut stream, &BEHIND_A_REPLY));
 }
 
+/// The time of a reply begins with its first write.
+const OF_A_REPLY: [Step; 3] = [
+    (Some(900_000), Some(10_000)),
+    (Some(929_000), Some(1_000)),
+    (Some(930_000), None),
+];
+
 #[test]
-fn the_time_of_a_reply_begins_with_its_first_write(rt: HostRuntime) -> Result<(), Fail> {
+fn the_time_of_a_reply_begins_with_its_first_write(rt: HostRuntime) {
     let times = Times::new();
     let mut stream = TimedStream::new(Patient(&times), &times, TimeLimit::of_a_client());
-    for (now, wait) in [
-        (900_000, Some(10_000)),
-        (929_000, Some(1_000)),
-        (930_000, None),
-    ] {
-        assert_eq!(&rt; write_at(&times, &mut stream, Some(now)), wait);
-    }
-    Ok(())
+    assert!(&rt; writes_wait(&times, &mut stream, &OF_A_REPLY));
 }
 
+/// A clock that tells nothing ends nobody.
+const UNTOLD: [Step; 4] = [
+    (None, Some(10_000)),
+    (Some(70_000), Some(10_000)),
+    (None, Some(10_000)),
+    (Some(100_000), None),
+];
+
 #[test]
-fn a_clock_that_tells_nothing_ends_nobody(rt: HostRuntime) -> Result<(), Fail> {
+fn a_clock_that_tells_nothing_ends_nobody(rt: HostRuntime) {
     let times = Times::new();
     let mut stream = TimedStream::new(Patient(&times), &times, TimeLimit::of_a_client());
     stream.begin();
-    for (now, wait) in [
-        (None, Some(10_000)),
-        (Some(70_000), Some(10_000)),
-        (None, Some(10_000)),
-    ] {
-        assert_eq!(&rt; read_at(&times, &mut stream, now), wait);
-    }
-    assert_eq!(&rt; read_at(&times, &mut stream, Some(100_000)), None);
-    Ok(())
+    assert!(&rt; reads_wait(&times, &mut stream, &UNTOLD));
 }

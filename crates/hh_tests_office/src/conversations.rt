@@ -119,12 +119,27 @@ impl<'a> Conversation<'a> {
             return false;
         };
         let mut sink = sink.in_pieces(self.piece).failing_after(self.write_fails);
-        let served = serve_one(alloc, routes, office, MOMENT, &mut source, &mut sink);
-        served == self.served
-            && source.failures() == self.failed_reads
+        let served = served(alloc, routes, office, &mut source, &mut sink);
+        served == self.served && self.is_done(&source, &sink)
+    }
+
+    /// Whether so many reads and writes failed, and these bytes were written.
+    fn is_done(&self, source: &MemorySource<'_>, sink: &MemorySink) -> bool {
+        source.failures() == self.failed_reads
             && sink.failures() == self.failed_writes
             && sink.taken() == self.gets
     }
+}
+
+/// How a client is served.
+fn served(
+    alloc: Global,
+    routes: &mut Routes,
+    office: &mut Office<'_, PlainTables>,
+    source: &mut MemorySource<'_>,
+    sink: &mut MemorySink,
+) -> Result<Served, ServeFault> {
+    serve_one(alloc, routes, office, MOMENT, source, sink)
 }
 
 /// Whether what should come of these clients comes, one after the other, at a new office.

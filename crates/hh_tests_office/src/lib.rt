@@ -4,8 +4,6 @@
 //!
 //! - Rows that no table of an office's database can hold.
 //! - Reports over tables in memory and over tables in a database, into outputs in memory.
-//! - Disks that stop: an office's database over two disks in memory, one of which fails each call
-//!   after a number of calls. Then the database is opened again from what the disks have.
 //! - Connections over devices in memory: which bytes are written if a read or a write fails.
 //!   Replies are written out here in the grammar of [formats](../../docs/formats.md).
 //! - Commands over files in memory.
@@ -18,13 +16,7 @@
 #[cfg(test)]
 mod conversations;
 #[cfg(test)]
-mod course;
-#[cfg(test)]
-mod crash_tests;
-#[cfg(test)]
 mod device_tests;
-#[cfg(test)]
-mod disks;
 #[cfg(test)]
 mod life_tests;
 #[cfg(test)]
@@ -32,12 +24,4 @@ mod report_tests;
 #[cfg(test)]
 mod requests;
 #[cfg(test)]
-mod round;
-#[cfg(test)]
 mod row_tests;
-#[cfg(test)]
-mod rows;
-#[cfg(test)]
-mod sweep;
-#[cfg(test)]
-mod trouble;

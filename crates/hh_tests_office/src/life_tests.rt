@@ -1,11 +1,11 @@
 //! Tests of what no clause says: with ample memory an office is made in files in memory, and commands over
 //! them are answered, however the process of each ends.
 
-use crate::requests::{LOADED_AT, PARTIES, asked, settings};
+use crate::requests::{LOADED_AT, PARTIES, load, settings};
 use hh_file_life::{Ending, FileCommand, LifeStop, make_office, run_all};
-use hh_names::{FileName, Refusal};
-use hh_requests::{Action, Reply, Upload};
-use hh_rows::{FileBody, FileKind, Settings};
+use hh_names::Refusal;
+use hh_requests::Reply;
+use hh_rows::{FileKind, Settings};
 use hh_time::london;
 use sqlite::Files;
 use sqlite_disk::Memory;
@@ -16,15 +16,10 @@ use std::test::Fail;
 const FEWER: &str = "party,from,to,key\nGENCO,2024-01-01,,genco0001\n";
 
 /// A command that loads a file of parties. All such files have the same name.
-fn load(alloc: Global, text: &str, ending: Ending) -> Result<FileCommand, Fail> {
-    let upload = Upload {
-        kind: FileKind::Parties,
-        name: FileName::read(b"f1.csv").ok_or("name")?,
-        body: FileBody::new(alloc, text.as_bytes().to_vec(alloc)?)?,
-    };
+fn command(alloc: Global, text: &str, ending: Ending) -> Result<FileCommand, Fail> {
     Ok(FileCommand {
         moment: LOADED_AT,
-        request: asked(alloc, Action::Load(upload))?,
+        request: load(alloc, FileKind::Parties, text.to_string(alloc)?).ok_or("load")?,
         ending,
     })
 }
@@ -32,9 +27,9 @@ fn load(alloc: Global, text: &str, ending: Ending) -> Result<FileCommand, Fail> 
 /// The first file is loaded, then another is sent under its name, and then the first again.
 fn commands(alloc: Global) -> Result<Vec<FileCommand>, Fail> {
     let mut commands = Vec::new(alloc);
-    commands.push(load(alloc, PARTIES, Ending::Left)?)?;
-    commands.push(load(alloc, FEWER, Ending::Crashed)?)?;
-    commands.push(load(alloc, PARTIES, Ending::Closed)?)?;
+    commands.push(command(alloc, PARTIES, Ending::Left)?)?;
+    commands.push(command(alloc, FEWER, Ending::Crashed)?)?;
+    commands.push(command(alloc, PARTIES, Ending::Closed)?)?;
     Ok(commands)
 }
 

@@ -30,6 +30,20 @@ fn is_read<K: Columned + Drop, V: Columned + Drop, S: Alter>(
     matches!(read::<K, V, S>(conn, alloc, row), Some(Ok(_)))
 }
 
+/// Whether each row is refused as one that no office wrote.
+fn are_refused<K: Columned + Drop, V: Columned + Drop, S: Alter>(
+    conn: &mut Connection<S>,
+    alloc: Global,
+    rows: &[&str],
+) -> bool {
+    for row in rows {
+        if !is_refused::<K, V, S>(conn, alloc, *row) {
+            return false;
+        }
+    }
+    true
+}
+
 /// Whether a row is refused as one that no office wrote.
 fn is_refused<K: Columned + Drop, V: Columned + Drop, S: Alter>(
     conn: &mut Connection<S>,
@@ -42,32 +56,37 @@ fn is_refused<K: Columned + Drop, V: Columned + Drop, S: Alter>(
     )
 }
 
+const VOLUMES: [&str; 6] = [
+    "SELECT x'63', 19905, 3, 0",
+    "SELECT 'c-1', NULL, 3, 0",
+    "SELECT 'c-1', '19905', 3, 0",
+    "SELECT 'c-1', 19905, 3, 1.5",
+    "SELECT 'c-1', 19905, 3",
+    "SELECT 'c-1', 19905, 3, 0, 0",
+];
+
+const POSITIONS: [&str; 3] = [
+    "SELECT 19905, 3, 'GENCO', 0, 5, NULL",
+    "SELECT 19905, 3, 'GENCO', 0, 5",
+    "SELECT 19905, 3, 'GENCO', 0, 5, 0, 0",
+];
+
+const PERIODS: [&str; 2] = ["SELECT 19905", "SELECT 19905, 3, 0"];
+
+const FILES: [&str; 1] = ["SELECT 'meters', 'f6.csv', '00', 2, 1"];
+
+/// Whether rows off their form are refused.
+fn see_rows<S: Alter>(conn: &mut Connection<S>, alloc: Global) -> bool {
+    is_read::<ContractKey, Kwh, S>(conn, alloc, "SELECT 'c-1', 19905, 3, -1500")
+        && are_refused::<ContractKey, Kwh, S>(conn, alloc, &VOLUMES)
+        && are_refused::<PositionKey, Position, S>(conn, alloc, &POSITIONS)
+        && are_refused::<SettlementPeriod, NoColumns, S>(conn, alloc, &PERIODS)
+        && are_refused::<FileKey, KeptFile, S>(conn, alloc, &FILES)
+}
+
 #[test]
 fn rows_off_their_form_are_refused(rt: HostRuntime) -> Result<(), Fail> {
-    let alloc = rt.alloc();
-    let mut conn = Connection::open_in_memory(alloc)?;
-    assert!(rt; is_read::<ContractKey, Kwh, _>(&mut conn, alloc, "SELECT 'c-1', 19905, 3, -1500"));
-    for row in [
-        "SELECT x'63', 19905, 3, 0",
-        "SELECT 'c-1', NULL, 3, 0",
-        "SELECT 'c-1', '19905', 3, 0",
-        "SELECT 'c-1', 19905, 3, 1.5",
-        "SELECT 'c-1', 19905, 3",
-        "SELECT 'c-1', 19905, 3, 0, 0",
-    ] {
-        assert!(rt; is_refused::<ContractKey, Kwh, _>(&mut conn, alloc, row));
-    }
-    for row in [
-        "SELECT 19905, 3, 'GENCO', 0, 5, NULL",
-        "SELECT 19905, 3, 'GENCO', 0, 5",
-        "SELECT 19905, 3, 'GENCO', 0, 5, 0, 0",
-    ] {
-        assert!(rt; is_refused::<PositionKey, Position, _>(&mut conn, alloc, row));
-    }
-    for row in ["SELECT 19905", "SELECT 19905, 3, 0"] {
-        assert!(rt; is_refused::<SettlementPeriod, NoColumns, _>(&mut conn, alloc, row));
-    }
-    let file = "SELECT 'meters', 'f6.csv', '00', 2, 1";
-    assert!(rt; is_refused::<FileKey, KeptFile, _>(&mut conn, alloc, file));
+    let mut conn = Connection::open_in_memory(rt.alloc())?;
+    assert!(rt; see_rows(&mut conn, rt.alloc()));
     Ok(())
 }

@@ -30,7 +30,7 @@ use Rattle.hh_rows.specs.declared.file_kind.FileKind.TheVariants as kind
 use Rattle.hh_rows.specs.declared.rows.Row.{Row}
 use Rattle.hh_rows.specs.declared.rows.Row.TheVariants as row
 use Rattle.hh_texts.specs.Fields.{field, in_column, ◌>>=◌}
-use Rattle.hh_texts.specs.Files.{contract_row, file_rows, kind_forms, kind_row, meter_row, party_row, price_row, reallocation_row, unit_row}
+use Rattle.hh_texts.specs.Files.{contract_row, file_rows, kind_forms, meter_row, party_row, price_row, reallocation_row, unit_row}
 use Rattle.hh_texts.specs.Records.{records_of}
 use Rattle.hh_texts.specs.Rows.{FileForm, at_row, form_under, row_with, rows_by, rows_from, rows_of, rows_under, same_fields}
 
@@ -263,15 +263,6 @@ module _ (fields : List (List ℕ)) where
         };
       })
 
--- the row that a record of a kind reads as is a row of the kind
-row_reads : (k : FileKind) (fields : List (List ℕ)) (r : Row) → kind_row k fields ≡ Ok r → IsRowOf k r
-row_reads kind.Parties = party_reads
-row_reads kind.Units = unit_reads
-row_reads kind.Meters = meter_reads
-row_reads kind.Prices = price_reads
-row_reads kind.Contracts = contract_reads
-row_reads kind.Reallocations = reallocation_reads
-
 -- the rows from number n on have the property, and are not too many
 abbrev AreFew : {X : Type 0} → (X → Type 0) → ℕ → List X → Type 0
 AreFew P n xs = (length xs + n ≤ most_rows + 1) × AllByRecursion P xs
@@ -343,10 +334,19 @@ module _ {X : Type 0} (P : X → Type 0) where
         go true is h = cc h
         go false is h = let few = under_reads (records_of bytes) xs h in (ltb-false most_bytes (length bytes) is, omega arith, few.1)
 
+-- the row that a record reads as under each form of a kind is a row of the kind
+forms_read : (k : FileKind) → AllByRecursion (Reads (IsRowOf k)) (kind_forms k)
+forms_read kind.Parties = (party_reads, tt)
+forms_read kind.Units = (unit_reads, tt)
+forms_read kind.Meters = (meter_reads, tt)
+forms_read kind.Prices = (price_reads, tt)
+forms_read kind.Contracts = (contract_reads, tt)
+forms_read kind.Reallocations = (reallocation_reads, tt)
+
 -- a file of a kind that reads has no more bytes and rows than it may have, and its rows are of the kind
 pub file_reads : (k : FileKind) (body : List ℕ) (rows : List Row) → file_rows k body ≡ Ok rows → IsFileOf k body rows
 file_reads k body rows e =
-    let read = all_read (IsRowOf k) (kind_forms k) (row_reads k, tt) body rows e in
+    let read = all_read (IsRowOf k) (kind_forms k) (forms_read k) body rows e in
     record { small = read.0; few = read.1; each = read.2 }
 
 -- this holds for what reading the file gives

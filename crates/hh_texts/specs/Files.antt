@@ -14,15 +14,6 @@ use Rattle.hh_rows.specs.declared.rows.Row.TheVariants as row
 use Rattle.hh_texts.specs.Fields.{column, ◌>>=◌}
 use Rattle.hh_texts.specs.Rows.{FileForm, rows_of}
 
--- the columns of each kind of file
-abbrev pub kind_header : FileKind → List (List ℕ)
-kind_header kind.Parties = codes "party" ∷ codes "from" ∷ codes "to" ∷ codes "key" ∷ []
-kind_header kind.Units = codes "unit" ∷ codes "party" ∷ codes "side" ∷ codes "interconnector" ∷ codes "from" ∷ codes "to" ∷ []
-kind_header kind.Meters = codes "unit" ∷ codes "date" ∷ codes "period" ∷ codes "metered_mwh" ∷ codes "tlm" ∷ codes "balancing_mwh" ∷ []
-kind_header kind.Prices = codes "date" ∷ codes "period" ∷ codes "price" ∷ []
-kind_header kind.Contracts = codes "reference" ∷ codes "seller" ∷ codes "buyer" ∷ codes "date" ∷ codes "period" ∷ codes "mwh" ∷ []
-kind_header kind.Reallocations = codes "unit" ∷ codes "account" ∷ codes "date" ∷ codes "period" ∷ codes "percent" ∷ codes "fixed_mwh" ∷ []
-
 -- the row that a record of parties reads as, or the first column that cannot be read
 unfoldable pub party_row : List (List ℕ) → Result Row ℕ
 party_row fields = do
@@ -84,22 +75,38 @@ reallocation_row fields = do
   fixed ← column fields 6 volume_value
   Ok (row.Reallocation (record { key = record { unit_period = record { unit = unit; at = record { date = date; period = period } }; account = account }; reallocation = record { percent = percent; fixed = fixed } }))
 
--- the row that a record of a kind reads as, or the first column that cannot be read
-abbrev pub kind_row : FileKind → List (List ℕ) → Result Row ℕ
-kind_row kind.Parties = party_row
-kind_row kind.Units = unit_row
-kind_row kind.Meters = meter_row
-kind_row kind.Prices = price_row
-kind_row kind.Contracts = contract_row
-kind_row kind.Reallocations = reallocation_row
+-- the form of a file of parties
+abbrev pub party_form : FileForm Row
+party_form = record { header = codes "party" ∷ codes "from" ∷ codes "to" ∷ codes "key" ∷ []; row = party_row }
 
--- the form of a kind of file
-abbrev pub kind_form : FileKind → FileForm Row
-kind_form kind = record { header = kind_header kind; row = kind_row kind }
+-- the form of a file of units
+abbrev pub unit_form : FileForm Row
+unit_form = record { header = codes "unit" ∷ codes "party" ∷ codes "side" ∷ codes "interconnector" ∷ codes "from" ∷ codes "to" ∷ []; row = unit_row }
 
--- the forms of a kind of file: each kind has one
+-- the form of a file of meter volumes
+abbrev pub meter_form : FileForm Row
+meter_form = record { header = codes "unit" ∷ codes "date" ∷ codes "period" ∷ codes "metered_mwh" ∷ codes "tlm" ∷ codes "balancing_mwh" ∷ []; row = meter_row }
+
+-- the form of a file of prices
+abbrev pub price_form : FileForm Row
+price_form = record { header = codes "date" ∷ codes "period" ∷ codes "price" ∷ []; row = price_row }
+
+-- the form of a file of contracts
+abbrev pub contract_form : FileForm Row
+contract_form = record { header = codes "reference" ∷ codes "seller" ∷ codes "buyer" ∷ codes "date" ∷ codes "period" ∷ codes "mwh" ∷ []; row = contract_row }
+
+-- the form of a file of reallocations
+abbrev pub reallocation_form : FileForm Row
+reallocation_form = record { header = codes "unit" ∷ codes "account" ∷ codes "date" ∷ codes "period" ∷ codes "percent" ∷ codes "fixed_mwh" ∷ []; row = reallocation_row }
+
+-- the forms that a file of a kind may have, told apart by their headers: each kind has one
 abbrev pub kind_forms : FileKind → List (FileForm Row)
-kind_forms kind = kind_form kind ∷ []
+kind_forms kind.Parties = party_form ∷ []
+kind_forms kind.Units = unit_form ∷ []
+kind_forms kind.Meters = meter_form ∷ []
+kind_forms kind.Prices = price_form ∷ []
+kind_forms kind.Contracts = contract_form ∷ []
+kind_forms kind.Reallocations = reallocation_form ∷ []
 
 -- the rows of a file of a kind, or the first fault in it
 abbrev pub file_rows : FileKind → List ℕ → Result (List Row) Fault

@@ -1,10 +1,11 @@
 //! The six kinds of file.
 
-ghost use Rattle.std.specs.Prelude.{◌≡◌, IfOk};
+ghost use Rattle.std.specs.Prelude.{◌≡◌, map, IfOk};
 ghost use Rattle.csv.specs.Records.{fields_of};
-ghost use Rattle.hh_texts.specs.Files.{contract_row, file_rows, kind_form, kind_forms, meter_row, party_row, price_row, reallocation_row, unit_row};
+ghost use Rattle.hh_texts.specs.Files.{contract_row, file_rows, kind_forms, meter_row, party_row, price_row, reallocation_row, unit_row};
 ghost use Rattle.hh_names.specs.Faults.{faults, IsOutcomeOrNoMemory};
 ghost use Rattle.hh_rows.specs.RowKinds.{IsFileOf};
+ghost use Rattle.hh_texts.specs.KindForms.{form_of};
 
 use crate::fields::field_in;
 use crate::form::{Form, read_rows};
@@ -22,16 +23,27 @@ use hh_rows::{
 use hh_time::SettlementDate;
 use std::alloc::Global;
 
-impl Form for FileKind {
+/// A form of a kind of file, which its header tells from the kind's other forms. Each kind has one.
+#[derive(Clone, Copy, Debug)]
+pub enum KindForm {
+    Parties,
+    Units,
+    Meters,
+    Prices,
+    Contracts,
+    Reallocations,
+}
+
+impl Form for KindForm {
     type Row = Row;
 
-    ghost form = { kind_form };
+    ghost form = { form_of };
 
     fn header(&self) -> &'static [&'static str] {
         match self {
-            FileKind::Parties => &["party", "from", "to", "key"],
-            FileKind::Units => &["unit", "party", "side", "interconnector", "from", "to"],
-            FileKind::Meters => &[
+            KindForm::Parties => &["party", "from", "to", "key"],
+            KindForm::Units => &["unit", "party", "side", "interconnector", "from", "to"],
+            KindForm::Meters => &[
                 "unit",
                 "date",
                 "period",
@@ -39,9 +51,9 @@ impl Form for FileKind {
                 "tlm",
                 "balancing_mwh",
             ],
-            FileKind::Prices => &["date", "period", "price"],
-            FileKind::Contracts => &["reference", "seller", "buyer", "date", "period", "mwh"],
-            FileKind::Reallocations => &[
+            KindForm::Prices => &["date", "period", "price"],
+            KindForm::Contracts => &["reference", "seller", "buyer", "date", "period", "mwh"],
+            KindForm::Reallocations => &[
                 "unit",
                 "account",
                 "date",
@@ -54,13 +66,27 @@ impl Form for FileKind {
 
     fn read_row(&self, fields: &ByteRecord, last: &mut LastDate) -> Result<Row, u32> {
         match self {
-            FileKind::Parties => read_party(fields),
-            FileKind::Units => read_unit(fields),
-            FileKind::Meters => read_meter(fields, last),
-            FileKind::Prices => read_price(fields, last),
-            FileKind::Contracts => read_contract(fields, last),
-            FileKind::Reallocations => read_reallocation(fields, last),
+            KindForm::Parties => read_party(fields),
+            KindForm::Units => read_unit(fields),
+            KindForm::Meters => read_meter(fields, last),
+            KindForm::Prices => read_price(fields, last),
+            KindForm::Contracts => read_contract(fields, last),
+            KindForm::Reallocations => read_reallocation(fields, last),
         }
+    }
+}
+
+/// The forms that a file of a kind may have. The first is the one that it usually has.
+pub fn forms_of(kind: FileKind) -> &'static [KindForm]
+    ensures { map form_of result.now ≡ kind_forms kind }
+{
+    match kind {
+        FileKind::Parties => &[KindForm::Parties],
+        FileKind::Units => &[KindForm::Units],
+        FileKind::Meters => &[KindForm::Meters],
+        FileKind::Prices => &[KindForm::Prices],
+        FileKind::Contracts => &[KindForm::Contracts],
+        FileKind::Reallocations => &[KindForm::Reallocations],
     }
 }
 
@@ -184,5 +210,5 @@ pub fn read_file(alloc: Global, kind: FileKind, bytes: &[u8]) -> Result<Vec<Row>
         (file_rows kind bytes.now) }
     ensures fits { IfOk result (λ rows. IsFileOf kind bytes.now rows.items) }
 {
-    read_rows(alloc, &[kind], bytes)
+    read_rows(alloc, forms_of(kind), bytes)
 }

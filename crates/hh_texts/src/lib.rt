@@ -15,7 +15,7 @@ mod period_contracts;
 mod period_meters;
 mod records;
 
-pub use files::read_file;
+pub use files::{KindForm, forms_of, read_file};
 pub use form::{Form, MOST_BYTES, MOST_ROWS, read_rows};
 pub use last_date::LastDate;
 pub use period_contracts::{PeriodContractRow, PeriodContracts, read_period_contracts};

@@ -1,6 +1,6 @@
 //! Dates as texts, `YYYY-MM-DD`.
 
-ghost use Rattle.std.specs.Prelude.{◌≡◌, ℕ, ◌+◌, ◌<◌, ◌/◌, ◌%◌, List, [], Some, IfSome, IfNone, IsTrue};
+ghost use Rattle.std.specs.Prelude.{◌≡◌, ℕ, ◌+◌, ◌<◌, ◌/◌, ◌%◌, List, [], Some, IfSome, IfNone, IsAscii, IsTrue};
 ghost use Rattle.jiff.specs.Types.{Date as PlainDate};
 ghost use Rattle.hh_time.specs.DateText.{date_text, date_value, text_of, two_digits};
 ghost use Rattle.hh_time.specs.steps.DateText.{IsDashed};
@@ -44,7 +44,8 @@ impl SettlementDate {
 
     /// The text of the date, `YYYY-MM-DD`.
     pub fn text(self) -> [u8; 10]
-        ensures { result ≡ date_text self }
+        ensures value { result ≡ date_text self }
+        ensures ascii { IsAscii result }
     {
         let date = self.date();
         let year = date.year() as u16;

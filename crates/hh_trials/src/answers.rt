@@ -42,7 +42,7 @@ pub(crate) fn answer_inputs(rt: &HostRuntime, kind: &Kind) -> Result<(), TrialSt
             break;
         }
         let answer = answer_to(rt.alloc(), kind, &bytes, &log)?;
-        println!(rt; "{answer}").map_err(|_| TrialStop::Output)?;
+        println!(rt; "{answer}").ok().ok_or(TrialStop::Output)?;
     }
     Ok(())
 }
@@ -52,7 +52,8 @@ pub(crate) fn write_log(rt: &HostRuntime, path: &str, calls: &[Call]) -> Result<
     let bytes = fs::read(rt, path)?;
     let course = course_of(rt.alloc(), &bytes, &[], calls)?;
     let mut out = StreamSink::new(rt.stdout());
-    write_whole(&mut out, course.left.log.bytes()).map_err(|_| TrialStop::Output)
+    let written = write_whole(&mut out, course.left.log.bytes());
+    written.ok().ok_or(TrialStop::Output)
 }
 
 /// Reads the next part of an input. `false` if there is none.
@@ -82,7 +83,7 @@ fn answer_to(alloc: Global, kind: &Kind, bytes: &[u8], log: &[u8]) -> Result<Str
 fn file_answer(alloc: Global, kind: FileKind, bytes: &[u8]) -> Result<String, AllocError> {
     let read = read_file(alloc, kind, bytes);
     if read != read_file(alloc, kind, bytes) {
-        return differs(alloc);
+        return format!(in alloc; "differs");
     }
     match read {
         Ok(rows) => format!(in alloc; "answered {}", rows.len()),
@@ -95,10 +96,8 @@ fn file_answer(alloc: Global, kind: FileKind, bytes: &[u8]) -> Result<String, Al
 fn request_answer(alloc: Global, bytes: &[u8]) -> Result<String, AllocError> {
     let piece = (mixed_bytes(0, bytes) % MOST_PIECE) as usize;
     let read = read_in_pieces(alloc, bytes, bytes.len());
-    let again = read_in_pieces(alloc, bytes, piece);
-    let (first, second) = (told(alloc, &read)?, told(alloc, &again)?);
-    if first.as_str() != second.as_str() {
-        return differs(alloc);
+    if !is_read_again(alloc, bytes, piece, &read)? {
+        return format!(in alloc; "differs");
     }
     match &read {
         Ok(Incoming::Closed) => format!(in alloc; "closed"),
@@ -110,9 +109,16 @@ fn request_answer(alloc: Global, bytes: &[u8]) -> Result<String, AllocError> {
     }
 }
 
-/// All that was read of a client, as a text.
-fn told(alloc: Global, read: &Result<Incoming, WireFault>) -> Result<String, AllocError> {
-    format!(in alloc; "{read:?}")
+/// Whether all that is read of a client that sends `piece` of its bytes at a time is this, as a text.
+fn is_read_again(
+    alloc: Global,
+    bytes: &[u8],
+    piece: usize,
+    read: &Result<Incoming, WireFault>,
+) -> Result<bool, AllocError> {
+    let first = format!(in alloc; "{read:?}")?;
+    let second = format!(in alloc; "{:?}", read_in_pieces(alloc, bytes, piece))?;
+    Ok(first.as_str() == second.as_str())
 }
 
 /// What is read from a client that sends `piece` of its bytes at a time.
@@ -125,7 +131,7 @@ fn read_in_pieces(alloc: Global, bytes: &[u8], piece: usize) -> Result<Incoming,
 fn script_answer(alloc: Global, bytes: &[u8]) -> Result<String, AllocError> {
     let read = read_script(alloc, bytes);
     if read != read_script(alloc, bytes) {
-        return differs(alloc);
+        return format!(in alloc; "differs");
     }
     match read {
         Ok(lines) => format!(in alloc; "answered {}", lines.len()),
@@ -144,11 +150,7 @@ fn database_answer(
 ) -> Result<String, TrialStop> {
     let course = course_of(alloc, db, log, calls)?;
     if !course.is_same(&course_of(alloc, db, log, calls)?) {
-        return Ok(differs(alloc)?);
+        return Ok(format!(in alloc; "differs")?);
     }
     Ok(format!(in alloc; "{:?}", course.heard.numbers)?)
-}
-
-fn differs(alloc: Global) -> Result<String, AllocError> {
-    format!(in alloc; "differs")
 }

@@ -12,7 +12,7 @@ use std::alloc::Global;
 use std::fs;
 
 /// What is asked of an office.
-#[derive(Debug, Drop)]
+#[derive(Drop)]
 pub(crate) enum Asked {
     /// A request, twice.
     Twice([(i64, Request); 2]),
@@ -33,7 +33,7 @@ impl Asked {
 }
 
 /// One call: what a file has, and when it comes.
-#[derive(Debug, Drop)]
+#[derive(Drop)]
 pub(crate) struct Call {
     pub(crate) moment: i64,
     pub(crate) bytes: Vec<u8>,
@@ -49,7 +49,7 @@ pub(crate) fn calls_of(rt: &HostRuntime, words: &[String]) -> Result<Vec<Call>, 
         let [moment, path] = pair else {
             return Err(TrialStop::Words);
         };
-        let moment = moment.parse::<i64>().map_err(|_| TrialStop::Words)?;
+        let moment = moment.parse().ok().ok_or(TrialStop::Words)?;
         calls.push(call_of(rt, moment, path.as_str())?)?;
     }
     Ok(calls)

@@ -1,9 +1,10 @@
 //! Numbers by which rows, and settled periods, are compared.
 
 use hh_calc::{AccountRow, PeriodResult};
-use hh_rules::{
-    Account, ContractRow, DateRange, MeterRow, PartyRow, ReallocationRow, Row, SettlementPeriod,
-    Side, UnitPeriod, UnitRow,
+use hh_names::{Account, Side};
+use hh_rows::{
+    ContractRow, DateRange, MeterRow, PartyRow, ReallocationRow, Row, SettlementPeriod, UnitPeriod,
+    UnitRow,
 };
 
 /// The checksum of the residual, the accounts' rows and the credits, each list in its order.

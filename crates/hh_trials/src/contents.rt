@@ -3,18 +3,16 @@
 
 use crate::calls::Call;
 use crate::stop::TrialStop;
+use crate::ways::ROOM;
 use hh_devices::MemorySink;
 use hh_names::{Account, Side};
 use hh_requests::{Action, Upload};
-use hh_rows::{PartyRow, Row};
+use hh_rows::Row;
 use hh_rules::Register;
 use hh_runs::RunKey;
-use hh_store::Tables;
+use hh_store::{KeptFile, Tables};
 use std::alloc::{AllocError, Global};
 use std::fmt::Debug;
-
-/// More bytes than the balances and the results of a run have.
-const ROOM: usize = 65_536;
 
 /// Appends a value as text.
 fn tell<V: Debug>(text: &mut Vec<u8>, value: &V) -> Result<(), AllocError> {
@@ -34,7 +32,7 @@ pub(crate) fn contents_of<T: Tables>(
         tell_call(tables, call, &mut text)?;
     }
     let mut sink = MemorySink::with_room(alloc, ROOM)?;
-    tables.balances(&mut sink)?;
+    tables.balances(&mut sink).ok().ok_or(TrialStop::Output)?;
     text.extend_from_slice(sink.taken())?;
     Ok(text)
 }
@@ -58,7 +56,8 @@ fn tell_run<T: Tables>(tables: &mut T, run: &RunKey, text: &mut Vec<u8>) -> Resu
     tell(text, &runs)?;
     if let Some((_, summary)) = runs.iter().find(|made| made.0 == run.kind) {
         let mut sink = MemorySink::with_room(*text.allocator(), ROOM)?;
-        tables.export(run, summary, &mut sink)?;
+        let told = tables.export(run, summary, &mut sink);
+        told.ok().ok_or(TrialStop::Output)?;
         text.extend_from_slice(sink.taken())?;
     }
     Ok(())
@@ -72,16 +71,24 @@ fn tell_file<T: Tables>(
     text: &mut Vec<u8>,
 ) -> Result<(), TrialStop> {
     if let Some(file) = tables.file(upload.kind, &upload.name)? {
-        tell(text, &(file.applied(), file.late()))?;
-        text.extend_from_slice(file.body())?;
+        tell_kept(&file, text)?;
     }
-    let register = tables.register(rows)?;
+    tell_rows(&tables.register(rows)?, rows, text)?;
+    for row in rows {
+        tell_party(tables, row, text)?;
+    }
+    Ok(())
+}
+
+fn tell_kept(file: &KeptFile, text: &mut Vec<u8>) -> Result<(), AllocError> {
+    tell(text, &(file.applied(), file.late()))?;
+    text.extend_from_slice(file.body())
+}
+
+fn tell_rows(register: &Register, rows: &[Row], text: &mut Vec<u8>) -> Result<(), AllocError> {
     tell(text, &(register.party_count(), register.unit_count()))?;
     for row in rows {
-        tell_row(&register, row, text)?;
-        if let Row::Party(row) = row {
-            tell_party(tables, row, text)?;
-        }
+        tell_row(register, row, text)?;
     }
     Ok(())
 }
@@ -101,12 +108,11 @@ fn tell_row(register: &Register, row: &Row, text: &mut Vec<u8>) -> Result<(), Al
     }
 }
 
-/// Appends what they tell about a party: whether its key is known, and what was posted to its accounts.
-fn tell_party<T: Tables>(
-    tables: &mut T,
-    row: &PartyRow,
-    text: &mut Vec<u8>,
-) -> Result<(), TrialStop> {
+/// Appends what they tell about a row's party, if it is of one: its key, and its accounts' postings.
+fn tell_party<T: Tables>(tables: &mut T, row: &Row, text: &mut Vec<u8>) -> Result<(), TrialStop> {
+    let Row::Party(row) = row else {
+        return Ok(());
+    };
     tell(text, &tables.key_known(row.registration.key.as_bytes())?)?;
     for side in [Side::Production, Side::Consumption] {
         let account = Account {

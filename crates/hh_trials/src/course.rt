@@ -10,7 +10,7 @@ use hh_requests::Reply;
 use hh_sqlstore::{Rising, SqlTables};
 use hh_store::Tables;
 use hh_time::london;
-use sqlite::{Connection, Options};
+use sqlite::{Connection, FileStore, Options};
 use sqlite_disk::{Disk, Files, Memory};
 use std::alloc::Global;
 
@@ -43,8 +43,7 @@ impl Course {
     }
 }
 
-/// What comes of a database of these two files, if these calls are asked of its office. It is not closed:
-/// nothing is copied from the log.
+/// What comes of a database of these two files, which is not closed, if these calls are asked of its office.
 pub(crate) fn course_of(
     alloc: Global,
     db: &[u8],
@@ -65,7 +64,7 @@ pub(crate) fn course_of(
     let left = match Connection::open_files(alloc, files, Options::new(1)) {
         Ok(connection) => {
             let (asked, connection) = heard.asked_over(alloc, connection, calls);
-            let left = connection.into_store().close();
+            let left = left_by(connection);
             asked?;
             left
         }
@@ -75,6 +74,10 @@ pub(crate) fn course_of(
         }
     };
     Ok(Course { heard, left })
+}
+
+fn left_by(connection: Connection<FileStore<Memory>>) -> Files<Memory> {
+    connection.into_store().close()
 }
 
 /// A disk in memory with these bytes.
@@ -94,16 +97,24 @@ impl Heard {
         calls: &[Call],
     ) -> (Result<(), TrialStop>, Connection<S>) {
         match SqlTables::adopt(alloc, connection) {
-            Ok(tables) => {
-                let mut office = Office::new(alloc, tables, london());
-                let asked = self.ask_all(alloc, &mut office, calls);
-                (asked, office.into_tables().into_connection())
-            }
+            Ok(tables) => self.asked_in(alloc, tables, calls),
             Err((fault, connection)) => {
                 let noted = self.numbers.push(Fault::from(fault).refusal.number());
                 (noted.map_err(TrialStop::from), connection)
             }
         }
+    }
+
+    /// Asks the office in these tables the calls.
+    fn asked_in<S: Rising>(
+        &mut self,
+        alloc: Global,
+        tables: SqlTables<S>,
+        calls: &[Call],
+    ) -> (Result<(), TrialStop>, Connection<S>) {
+        let mut office = Office::new(alloc, tables, london());
+        let asked = self.ask_all(alloc, &mut office, calls);
+        (asked, office.into_tables().into_connection())
     }
 
     fn ask_all<T: Tables>(

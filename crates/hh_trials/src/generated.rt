@@ -3,8 +3,8 @@
 ghost use Rattle.std.specs.Prelude.{◌≤◌, ◌<◌, unsigned_abs};
 
 use hh_calc::{Contracts, PeriodData, Subsidiary, UnitData};
+use hh_names::{Account, Contract, Counterparties, Reading, Reallocation, UnitId};
 use hh_num::{Kwh, Percent, Price, Tlm};
-use hh_rules::{Account, Contract, Counterparties, Reading, Reallocation, UnitId};
 use std::alloc::Global;
 
 /// Two to each of 400 parties.

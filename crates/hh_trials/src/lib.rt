@@ -6,7 +6,8 @@
 //! - `settle TIMES` settles a period of the market's size, `read KIND FILE TIMES` reads a file of a
 //!   kind, and `load KIND FILE ..` reads files and applies their rows to a new register.
 //! - `office DB SCRIPT` runs the lines of a script over the office in a database file. With
-//!   `OPERATOR-KEY LEAD-MINUTES` after that it makes the office first.
+//!   `OPERATOR-KEY LEAD-MINUTES` after that it makes the office first. With `small` before these few
+//!   pages are kept in memory, and the first line that is refused is the last.
 //! - `answer KIND` reads damaged inputs from standard input, each twice, and writes their answers.
 //!   KIND is the word of a kind of file, `request`, `script`, or `database MOMENT FILE ..`: then
 //!   the office in each database gets the calls of the files, each an HTTP request or a line of a
@@ -26,7 +27,6 @@ mod answers;
 mod calls;
 mod checksum;
 mod contents;
-mod control;
 mod course;
 mod generated;
 mod measures;

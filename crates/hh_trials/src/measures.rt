@@ -35,7 +35,8 @@ impl Watch {
     /// Ends now, and prints on standard error the nanoseconds that it took.
     pub(crate) fn stop(self, rt: &HostRuntime) -> Result<(), TrialStop> {
         let taken = self.begin.elapsed(rt)?;
-        eprintln!(rt; "{}", taken.as_nanos()).map_err(|_| TrialStop::Output)
+        let printed = eprintln!(rt; "{}", taken.as_nanos());
+        printed.ok().ok_or(TrialStop::Output)
     }
 }
 
@@ -46,7 +47,7 @@ pub(crate) fn settle_again(rt: &HostRuntime, times: u32) -> Result<(), TrialStop
     for _ in 0..times {
         checksum = settle_once(rt, &period)?;
     }
-    println!(rt; "{checksum}").map_err(|_| TrialStop::Output)
+    println!(rt; "{checksum}").ok().ok_or(TrialStop::Output)
 }
 
 /// Settles the period, if it may be settled, and prints the nanoseconds that it took.
@@ -74,16 +75,17 @@ pub(crate) fn read_again(
     file: NamedFile<'_>,
     times: u32,
 ) -> Result<(), TrialStop> {
-    let bytes = fs::read(rt, file.path)?;
+    let (kind, path) = file;
+    let bytes = fs::read(rt, path)?;
     let mut outcome: Outcome = Ok((0, 0));
     for _ in 0..times {
-        outcome = read_once(rt, file.kind, &bytes)?;
+        outcome = read_once(rt, kind, &bytes)?;
     }
     let printed = match outcome {
         Ok((count, checksum)) => println!(rt; "{count} {checksum}"),
         Err(refusal) => println!(rt; "refused {} {}", refusal.number(), refusal.name()),
     };
-    printed.map_err(|_| TrialStop::Output)
+    printed.ok().ok_or(TrialStop::Output)
 }
 
 /// Reads the rows of the bytes, and prints the nanoseconds that it took.
@@ -98,25 +100,16 @@ fn read_once(rt: &HostRuntime, kind: FileKind, bytes: &[u8]) -> Result<Outcome, 
     }
 }
 
-/// What became of the rows of a file.
-#[derive(Clone, Copy, Default)]
-struct Counts {
-    applied: u32,
-    late: u32,
-    refused: u32,
-}
-
-impl Counts {
-    /// Counts one more row. `Err` only if memory was refused.
-    fn add(&mut self, judged: Result<RowDone, Fault>) -> Result<(), TrialStop> {
-        match judged {
-            Ok(RowDone::Applied { .. }) => self.applied = self.applied.saturating_add(1),
-            Ok(RowDone::Late { .. }) => self.late = self.late.saturating_add(1),
-            Err(fault) if fault.refusal == Refusal::Memory => return Err(TrialStop::no_memory()),
-            Err(_) => self.refused = self.refused.saturating_add(1),
-        }
-        Ok(())
+/// Counts one more row of a file, among those that were applied, were late or were refused. `Err` only if
+/// memory was refused.
+fn count(counts: &mut [u32; 3], judged: Result<RowDone, Fault>) -> Result<(), TrialStop> {
+    match judged {
+        Ok(RowDone::Applied { .. }) => counts[0] = counts[0].saturating_add(1),
+        Ok(RowDone::Late { .. }) => counts[1] = counts[1].saturating_add(1),
+        Err(fault) if fault.refusal == Refusal::Memory => return Err(TrialStop::no_memory()),
+        Err(_) => counts[2] = counts[2].saturating_add(1),
     }
+    Ok(())
 }
 
 /// Loads the files into a new register, in their order.
@@ -137,17 +130,16 @@ fn load_file(
     zone: &TimeZone<'_>,
     file: NamedFile<'_>,
 ) -> Result<(), TrialStop> {
-    let bytes = fs::read(rt, file.path)?;
-    let rows = read_file(rt.alloc(), file.kind, &bytes)?;
-    let mut counts = Counts::default();
+    let (kind, path) = file;
+    let bytes = fs::read(rt, path)?;
+    let rows = read_file(rt.alloc(), kind, &bytes)?;
+    let mut counts = [0u32; 3];
     let watch = Watch::start(rt)?;
     for row in &rows {
-        counts.add(register.apply_row(zone, MOMENT, *row))?;
+        count(&mut counts, register.apply_row(zone, MOMENT, *row))?;
     }
     watch.stop(rt)?;
-    let (kind, late) = (file.kind.word(), counts.late);
-    let (applied, refused) = (counts.applied, counts.refused);
-    println!(rt; "{kind} applied {applied} late {late} refused {refused}").map_err(
-        |_| TrialStop::Output,
-    )
+    let (kind, [applied, late, refused]) = (kind.word(), counts);
+    let printed = println!(rt; "{kind} applied {applied} late {late} refused {refused}");
+    printed.ok().ok_or(TrialStop::Output)
 }

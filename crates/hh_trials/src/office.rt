@@ -11,6 +11,7 @@ use hh_rows::Settings;
 use hh_script::{ScriptFault, ScriptLine, read_script};
 use hh_session::{MOST_SCRIPT_BYTES, NoNotes, run_lines};
 use hh_sqlstore::{Rising, SqlTables};
+use hh_store::StoreFault;
 use hh_time::london;
 use sqlite::{Connection, FileStore, Options};
 use sqlite_disk::{Disk, Files};
@@ -21,13 +22,27 @@ use std::hash::{BuildHasher, RandomState};
 /// How many pages of 4,096 bytes are kept in memory. A market day takes some 12,000.
 const PAGES: usize = 16_384;
 
+/// The options of a database, with a number for its log. With few pages in memory pages are written, and the
+/// log is copied into the database's file, while lines are run.
+fn options_of(is_small: bool, seed: u64) -> Options {
+    let mut options = Options::new(seed);
+    if is_small {
+        options.checkpoint_frames = 8;
+    }
+    options.cache_pages = if is_small { 2 } else { PAGES };
+    options.spill_pages = if is_small { 4 } else { PAGES };
+    options
+}
+
 /// Runs the script at a path over the office in the files at another, which is made if settings are given.
-/// Prints on standard error the nanoseconds that it took to open the files, and then those of the rest.
+/// With few pages in memory, a line that is refused is the last. Prints on standard error the nanoseconds
+/// that it took to open the files, and then those of the rest.
 pub(crate) fn run_office(
     rt: &HostRuntime,
     database: &str,
     script: &str,
-    settings: Option<Settings>,
+    is_small: bool,
+    made: Option<Settings>,
 ) -> Result<(), TrialStop> {
     let host = RuntimeHost(rt);
     let script = script_of(rt, &host, script)?;
@@ -36,18 +51,16 @@ pub(crate) fn run_office(
         Err(ScriptFault::BadLine { .. }) => return Err(TrialStop::Words),
         Err(ScriptFault::Memory) => return Err(TrialStop::no_memory()),
     };
-    // A cache for a market day, with a new number for the log.
-    let options = Options {
-        cache_pages: PAGES,
-        spill_pages: PAGES,
-        ..Options::new(RandomState::new(rt)?.hash_one(&0u8))
-    };
+    let options = options_of(is_small, RandomState::new(rt)?.hash_one(&0u8));
     let watch = Watch::start(rt)?;
     let connection = open(rt.alloc(), files_at(rt, database)?, options)?;
     let opened = watch.stop(rt);
     let watch = Watch::start(rt);
     let mut out = StreamSink::new(rt.stdout());
-    let (ran, connection) = run_over(rt.alloc(), connection, settings, &host, &lines, &mut out);
+    let (ran, connection) = match tables_in(rt.alloc(), connection, made) {
+        Ok(tables) => run_in(rt.alloc(), tables, is_small, &host, &lines, &mut out),
+        Err((fault, connection)) => (Err(TrialStop::from(fault)), connection),
+    };
     let closed = connection.close();
     opened?;
     watch?.stop(rt)?;
@@ -88,28 +101,29 @@ pub(crate) fn open<D: Disk + Drop>(
     }
 }
 
-/// Runs the lines over the office in a database. The office is made if settings are given.
-fn run_over<S: Rising, H: Host, O: Sink>(
+/// The tables of the office in a database, which is made if settings are given.
+fn tables_in<S: Rising>(
     alloc: Global,
     connection: Connection<S>,
-    settings: Option<Settings>,
+    made: Option<Settings>,
+) -> Result<SqlTables<S>, (StoreFault, Connection<S>)> {
+    match made {
+        Some(settings) => SqlTables::create(alloc, connection, settings),
+        None => SqlTables::adopt(alloc, connection),
+    }
+}
+
+/// Runs the lines over the office in these tables.
+fn run_in<S: Rising, H: Host, O: Sink>(
+    alloc: Global,
+    tables: SqlTables<S>,
+    strict: bool,
     host: &H,
     lines: &[ScriptLine<'_>],
     out: &mut O,
 ) -> (Result<(), TrialStop>, Connection<S>) {
-    let tables = match settings {
-        Some(settings) => SqlTables::create(alloc, connection, settings),
-        None => SqlTables::adopt(alloc, connection),
-    };
-    match tables {
-        Ok(tables) => {
-            let mut office = Office::new(alloc, tables, london());
-            let ran = match run_lines(alloc, &mut office, host, lines, false, &mut NoNotes, out) {
-                Ok(()) => Ok(()),
-                Err(_) => Err(TrialStop::Output),
-            };
-            (ran, office.into_tables().into_connection())
-        }
-        Err((fault, connection)) => (Err(TrialStop::from(fault)), connection),
-    }
+    let mut office = Office::new(alloc, tables, london());
+    let ran = run_lines(alloc, &mut office, host, lines, strict, &mut NoNotes, out);
+    let ran = ran.ok().ok_or(TrialStop::Output);
+    (ran, office.into_tables().into_connection())
 }

@@ -3,14 +3,14 @@
 ghost use Rattle.std.specs.Prelude.{◌≤◌};
 
 use hh_names::{Fault, Refusal};
-use hh_store::{OutputFault, StoreFault};
+use hh_store::StoreFault;
 use sqlite::{Error, ErrorCode};
 use std::alloc::{AllocError, AllocFailed};
 use std::io;
 use std::io::{Eprint, ErrorKind};
 
 const USAGE: &str =
-    "usage: hh_bench settle TIMES | read KIND FILE TIMES | load KIND FILE [KIND FILE ..] | office DB SCRIPT [OPERATOR-KEY LEAD-MINUTES] | answer KIND [MOMENT FILE ..] | log DB [MOMENT FILE ..] | refuse WAY HOW STORE [MOMENT FILE ..]";
+    "usage: hh_bench settle TIMES | read KIND FILE TIMES | load KIND FILE [KIND FILE ..] | office DB SCRIPT [small] [OPERATOR-KEY LEAD-MINUTES] | answer KIND [MOMENT FILE ..] | log DB [MOMENT FILE ..] | refuse WAY HOW STORE [MOMENT FILE ..]";
 
 /// Why the program ends before it is done.
 #[derive(Clone, Copy, Debug)]
@@ -96,16 +96,6 @@ pub(crate) fn refusal_of(error: Error) -> Refusal {
 impl From<StoreFault> for TrialStop {
     fn from(fault: StoreFault) -> TrialStop {
         TrialStop::from(Fault::from(fault))
-    }
-}
-
-impl From<OutputFault> for TrialStop {
-    fn from(fault: OutputFault) -> TrialStop {
-        match fault {
-            OutputFault::Memory => TrialStop::no_memory(),
-            OutputFault::Store => TrialStop::Refused(Refusal::Store),
-            OutputFault::Write => TrialStop::Output,
-        }
     }
 }
 

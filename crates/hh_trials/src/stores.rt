@@ -7,7 +7,7 @@ use hh_plain_tables::PlainTables;
 use hh_rows::{LeadMinutes, Settings};
 use hh_sqlstore::SqlTables;
 use hh_store::Tables;
-use sqlite::{FileStore, Options};
+use sqlite::{Connection, FileStore, Options};
 use sqlite_std_file::File;
 use std::alloc::{AllocError, Global};
 use std::fs;
@@ -65,19 +65,15 @@ impl Store for InFile<'_> {
     type Tables = SqlTables<FileStore<File>>;
 
     fn begin(&self, rt: &HostRuntime) -> Result<SqlTables<FileStore<File>>, TrialStop> {
-        let settings = settings()?;
         let log = self.log(rt.alloc())?;
         let _ = fs::remove_file(rt, self.path);
         let _ = fs::remove_file(rt, log.as_str());
-        let files = files_at(rt, self.path)?;
-        let connection = open(rt.alloc(), files, Options::new(1))?;
-        match SqlTables::create(rt.alloc(), connection, settings) {
-            Ok(tables) => Ok(tables),
-            Err((fault, connection)) => {
-                let _ = connection.close();
-                Err(TrialStop::from(fault))
-            }
-        }
+        let (files, settings) = (files_at(rt, self.path)?, settings()?);
+        made_in(
+            rt.alloc(),
+            open(rt.alloc(), files, Options::new(1))?,
+            settings,
+        )
     }
 
     /// The bytes of the database and of its log.
@@ -89,8 +85,26 @@ impl Store for InFile<'_> {
     }
 
     fn end(&self, tables: SqlTables<FileStore<File>>) -> Result<(), TrialStop> {
-        Ok(tables.into_connection().close()?)
+        closed(tables.into_connection())
     }
+}
+
+fn made_in(
+    alloc: Global,
+    connection: Connection<FileStore<File>>,
+    settings: Settings,
+) -> Result<SqlTables<FileStore<File>>, TrialStop> {
+    match SqlTables::create(alloc, connection, settings) {
+        Ok(tables) => Ok(tables),
+        Err((fault, connection)) => {
+            let _ = closed(connection);
+            Err(TrialStop::from(fault))
+        }
+    }
+}
+
+fn closed(connection: Connection<FileStore<File>>) -> Result<(), TrialStop> {
+    Ok(connection.close()?)
 }
 
 impl InFile<'_> {

@@ -38,7 +38,7 @@ struct Right {
 }
 
 /// What came of a call during which a growth was refused.
-#[derive(Clone, Copy, Debug, PartialEq, Eq)]
+#[derive(Clone, Copy)]
 enum Outcome {
     /// The right answer, and no growth was refused.
     Answered,
@@ -95,9 +95,9 @@ impl<S: Store> Trial<'_, S> {
     /// Tries each call. What should come of it comes of the same call over tables in memory, the twin.
     fn sweep_each(&mut self, mut twin: PlainTables) -> Result<(), TrialStop> {
         for place in 0..self.plan.calls.len() {
-            let (right, behind) = self.right_of(place, twin)?;
+            let (right, behind) = self.right_of(place, twin);
             twin = behind;
-            self.sweep(place, &right)?;
+            self.sweep(place, &right?)?;
         }
         Ok(())
     }
@@ -107,21 +107,11 @@ impl<S: Store> Trial<'_, S> {
         &self,
         place: usize,
         mut twin: PlainTables,
-    ) -> Result<(Right, PlainTables), TrialStop> {
-        let before = contents_of(self.rt.alloc(), &mut twin, &self.plan.calls)?;
+    ) -> (Result<Right, TrialStop>, PlainTables) {
+        let before = contents_of(self.rt.alloc(), &mut twin, &self.plan.calls);
         let (came, mut twin) = made_over(self.rt, self.plan, place, 0, twin);
-        let came = came?;
-        let after = contents_of(self.rt.alloc(), &mut twin, &self.plan.calls)?;
-        if came.refused || came.tells_refusal() {
-            return Err(wrong(Wrong::MemoryRefusedToTheTwin, place, 0));
-        }
-        let Attempt { answers, .. } = came;
-        let right = Right {
-            answers,
-            before,
-            after,
-        };
-        Ok((right, twin))
+        let after = contents_of(self.rt.alloc(), &mut twin, &self.plan.calls);
+        (right_by(place, came, before, after), twin)
     }
 
     /// Makes the call at a place with each growth refused in turn, until none is refused, and prints how
@@ -208,6 +198,25 @@ impl<S: Store> Trial<'_, S> {
     }
 }
 
+/// What should come of the call at a place, by what came of it and what the tables told before and after it.
+fn right_by(
+    place: usize,
+    came: Result<Attempt, TrialStop>,
+    before: Result<Vec<u8>, TrialStop>,
+    after: Result<Vec<u8>, TrialStop>,
+) -> Result<Right, TrialStop> {
+    let came = came?;
+    if came.refused || came.tells_refusal() {
+        return Err(wrong(Wrong::MemoryRefusedToTheTwin, place, 0));
+    }
+    let Attempt { answers, .. } = came;
+    Ok(Right {
+        answers,
+        before: before?,
+        after: after?,
+    })
+}
+
 /// Drops or closes tables, if there are any.
 fn ended<S: Store>(store: &S, tables: Option<S::Tables>) -> Result<(), TrialStop> {
     match tables {
@@ -238,11 +247,9 @@ fn print_answers(rt: &HostRuntime, head: &str, answers: &[Vec<u8>]) -> Result<()
     let mut out = StreamSink::new(rt.stdout());
     for answer in answers {
         let head = format!(in rt.alloc(); "{head}{}\n", answer.len())?;
-        if write_whole(&mut out, head.as_bytes()).is_err()
-            || write_whole(&mut out, answer).is_err()
-        {
-            return Err(TrialStop::Output);
-        }
+        let written = write_whole(&mut out, head.as_bytes());
+        written.ok().ok_or(TrialStop::Output)?;
+        write_whole(&mut out, answer).ok().ok_or(TrialStop::Output)?;
     }
     Ok(())
 }

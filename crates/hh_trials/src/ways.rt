@@ -1,7 +1,6 @@
 //! Calls of an office, with a growth of memory refused in each, and what comes of them.
 
 use crate::calls::{Asked, Call};
-use crate::control::{begin, was_refused};
 use crate::stop::TrialStop;
 use hh_devices::{MemorySink, MemorySource};
 use hh_http_replies::write_reply;
@@ -12,9 +11,11 @@ use hh_requests::{Reply, Report, Request};
 use hh_store::Tables;
 use hh_wire::Routes;
 use std::alloc::Global;
+use std::fs;
+use std::io::ErrorKind;
 
 /// The call of the office by which requests are tried.
-#[derive(Clone, Copy, Debug, PartialEq, Eq)]
+#[derive(Clone, Copy)]
 pub(crate) enum Way {
     /// By `handle`, and by the calls for reports.
     Handle,
@@ -24,8 +25,8 @@ pub(crate) enum Way {
     Together,
 }
 
-/// More bytes than any reply or report has.
-const ROOM: usize = 65_536;
+/// More bytes than any reply or report of these calls has.
+pub(crate) const ROOM: usize = 65_536;
 
 /// The reply that tells that memory was refused.
 const NO_MEMORY: &[u8] =
@@ -88,7 +89,10 @@ pub(crate) fn tried<T: Tables>(
     match (way, &call.asked) {
         (_, Asked::Report { key, report }) => reported(rt, office, key, report, refusing),
         (Way::Handle, Asked::Twice([(moment, request), _])) => {
-            handled(rt, office, *moment, request, refusing)
+            begin(rt, refusing);
+            let reply = office.handle(*moment, request);
+            let refused = was_refused(rt);
+            one(told_by(rt.alloc(), &reply)?, refused)
         }
         (Way::Together, Asked::Twice(requests)) => together(rt, office, requests, refusing),
         (Way::Serve, _) | (_, Asked::NoRequest) => served(rt, office, call, refusing),
@@ -123,20 +127,6 @@ fn reported<T: Tables>(
         Err(ReportStop::Write) => return Err(TrialStop::Output),
     }
     one(answer, refused)
-}
-
-/// What comes of a request that the office handles.
-fn handled<T: Tables>(
-    rt: &HostRuntime,
-    office: &mut Office<'_, T>,
-    moment: i64,
-    request: &Request,
-    refusing: &str,
-) -> Result<Attempt, TrialStop> {
-    begin(rt, refusing);
-    let reply = office.handle(moment, request);
-    let refused = was_refused(rt);
-    one(told_by(rt.alloc(), &reply)?, refused)
 }
 
 /// What comes of requests that are run one after the other.
@@ -187,10 +177,9 @@ fn served<T: Tables>(
 /// The bytes of a reply.
 fn told_by(alloc: Global, reply: &Reply) -> Result<Vec<u8>, TrialStop> {
     let mut sink = MemorySink::with_room(alloc, ROOM)?;
-    match write_reply(alloc, reply, false, &mut sink) {
-        Ok(()) => Ok(Vec::from_slice(alloc, sink.taken())?),
-        Err(_) => Err(TrialStop::Output),
-    }
+    let written = write_reply(alloc, reply, false, &mut sink);
+    written.ok().ok_or(TrialStop::Output)?;
+    Ok(Vec::from_slice(alloc, sink.taken())?)
 }
 
 /// A call with one answer.
@@ -198,4 +187,29 @@ fn one(answer: Vec<u8>, refused: bool) -> Result<Attempt, TrialStop> {
     let mut answers = Vec::new(*answer.allocator());
     answers.push(answer)?;
     Ok(Attempt { answers, refused })
+}
+
+// The library that refuses memory is told what to refuse, and asked whether it has, by opening certain paths.
+// That takes no memory. Without the library nothing is there.
+
+/// In this folder, a number is that of a growth which the library refuses. For 0, it refuses none.
+pub(crate) const ONCE: &str = "/refused-memory/once";
+
+/// In this folder, it is that of a growth which the library refuses, like each later one.
+pub(crate) const ON: &str = "/refused-memory/on";
+
+/// The path at which the library tells whether it has refused a growth. After that it refuses none.
+const ASKED: &str = "/refused-memory/asked";
+
+/// Tells the library that a call begins now. It counts growths from 1.
+pub(crate) fn begin(rt: &HostRuntime, refusing: &str) {
+    let _ = fs::open(rt, refusing);
+}
+
+/// Tells the library that a call has ended now. Answers whether a growth was refused during it.
+pub(crate) fn was_refused(rt: &HostRuntime) -> bool {
+    match fs::open(rt, ASKED) {
+        Ok(_) => false,
+        Err(error) => error.kind() == ErrorKind::PermissionDenied,
+    }
 }

@@ -1,5 +1,5 @@
 -- The texts that the readers of a path's parts accept are ASCII, not empty, and have no slash.
-use Rattle.std.proofs.Common.{◌≡◌, ◌∙◌, ℕ, zero, suc, ◌+◌, ◌-◌, ◌/◌, ◌%◌, ◌<◌, ◌≤◌, List, [], ◌∷◌, length, take, drop, Option, Some, None, Bool, true, false, ◌&&◌, cond, refl, sym, ap, subst, arith, true≢false}
+use Rattle.std.proofs.Common.{◌≡◌, ◌∙◌, ℕ, ℤ, pos, negsuc, ◌≤ℤ◌, zero, suc, ◌+◌, ◌-◌, ◌/◌, ◌%◌, ◌<◌, ◌≤◌, List, [], ◌∷◌, length, take, drop, Option, Some, None, Bool, true, false, ◌&&◌, cond, refl, sym, ap, subst, arith, true≢false}
 use Rattle.std.proofs.lemmas.Bool.{and_from, and_parts, eqb-true, ne_eqb, not_from_false}
 use Rattle.std.proofs.lemmas.Bool.Decides.{nat_tests}
 use Rattle.std.proofs.lemmas.Option.{cond_some, none-some, same_Some}
@@ -23,7 +23,6 @@ use Rattle.hh_rows.specs.declared.file_kind.FileKind.TheVariants as kind
 use Rattle.hh_runs.specs.RunKinds.{all_run_kinds, run_kind_code, run_kind_value}
 use Rattle.hh_runs.specs.declared.run_kind.RunKind.{RunKind}
 use Rattle.hh_runs.specs.declared.run_kind.RunKind.TheVariants as run
-use Rattle.hh_http_replies.proofs.TextLemmas.{size_below}
 use Rattle.hh_wire.specs.steps.Paths.{is_part, is_part_byte}
 
 -- ---- kinds
@@ -163,6 +162,10 @@ ones_part n = digit_part (n % 10) (omega arith)
 dashed_part : (a b c d : ℕ) → a < 100 → b < 100 → c < 100 → d < 100 → is_part (dashed a b c d) ≡ true
 dashed_part a b c d ha hb hc hd =
     rw (tens_part a ha, ones_part a, tens_part b hb, ones_part b, tens_part c hc, ones_part c, tens_part d hd, ones_part d) refl
+
+size_below : (z : ℤ) → pos 2001 ≤ℤ z → z ≤ℤ pos 2099 → unsigned_abs z ≤ 2099
+size_below (pos n) low high = omega (arith, signed_arith)
+size_below (negsuc n) low high = absurd (omega (arith, signed_arith))
 
 text_part : (x : Date) → IsAccepted x → is_part (text_of x) ≡ true
 text_part x h =

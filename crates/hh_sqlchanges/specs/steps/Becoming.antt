@@ -11,6 +11,7 @@ use Rattle.hh_states.specs.Changes.{RunChangeView}
 use Rattle.hh_states.specs.Content.{Content}
 use Rattle.hh_beside.specs.DayLaws.{HaveTheSame}
 use Rattle.hh_sqlrows.specs.Contents.{beside_in, content_of}
+use Rattle.hh_sqlrows.specs.no_columns.NoColumns.{NoColumns}
 use Rattle.hh_sqlchanges.specs.Writes.{StaysOffice, StoresRun}
 
 -- The database is still an office's with the same settings and mark. Its content is what `effect` makes of it, and nothing else changed.
@@ -28,6 +29,10 @@ BecomesOrLeaves effect old new false = new ≡ old
 pub record StoresRunAlone (w : RunChangeView) (old new : Database) : Type 0 where
   pub stores : StoresRun w old new
   pub beside : beside_in new.trees ≡ beside_in old.trees
+
+-- a Settlement Period as a row without other columns
+abbrev pub touched_entry : SettlementPeriod → SettlementPeriod × NoColumns
+touched_entry at = (at, record {})
 
 -- The content is as it was. These positions and these touched Settlement Periods are added to what is kept beside it.
 pub record WritesBeside (changed : List (PositionKey × Position)) (periods : List SettlementPeriod) (old new : Database) : Type 0 where

@@ -9,7 +9,7 @@ use Rattle.hh_rows.specs.DateRanges.{holds}
 use Rattle.hh_rows.specs.declared.keys.ContractKey.{ContractKey}
 use Rattle.hh_rows.specs.declared.rows.UnitRegistration.{UnitRegistration}
 use Rattle.hh_rules.specs.History.{Registered}
-use Rattle.hh_sqlparts.specs.declared.named_names.UnitDay.{UnitDay}
+use Rattle.hh_sqlrows.specs.declared.unit_date.UnitDate.{UnitDate}
 use Rattle.hh_sqlparts.specs.steps.Named.{entry_under, prices_of, readings_of, reallocations_of}
 
 -- the ids of the units that are effective on a date
@@ -17,7 +17,7 @@ abbrev pub ids_on : ℕ → Table (List ℕ) UnitRegistration → List (List ℕ
 ids_on date units = map (λ e. e.0) (filter (λ e. holds e.1.range date) units)
 
 -- a unit on a date
-abbrev pub on_date : ℕ → List ℕ → UnitDay
+abbrev pub on_date : ℕ → List ℕ → UnitDate
 on_date date unit = record { unit = unit; date = date }
 
 -- the references of contracts; if neighbours have the same reference, it is listed once

@@ -18,7 +18,8 @@ use Rattle.hh_rows.specs.declared.rows.Row.{Row}
 use Rattle.hh_rows.specs.declared.rows.Row.TheVariants as row
 use Rattle.hh_rows.specs.Keys.{reallocation_key_cmp, unit_period_cmp}
 use Rattle.hh_sqlrows.specs.OfficeTables.{is_of_unit_on}
-use Rattle.hh_sqlparts.specs.declared.named_names.UnitDay.{UnitDay}
+pub use Rattle.hh_sqlrows.specs.Forms.{entry_under, found_entry}
+use Rattle.hh_sqlrows.specs.declared.unit_date.UnitDate.{UnitDate}
 
 -- ---- what a row is judged by in each table; a row of another kind needs nothing from it
 
@@ -50,10 +51,10 @@ reallocated_of _ = None
 -- ---- the names by which these are read
 
 -- the unit and the date of a key
-abbrev pub unit_day : UnitPeriod → UnitDay
+abbrev pub unit_day : UnitPeriod → UnitDate
 unit_day key = record { unit = key.unit; date = key.at.date }
 
-abbrev pub unit_day_of : Row → Option UnitDay
+abbrev pub unit_day_of : Row → Option UnitDate
 unit_day_of r = option_map unit_day (reading_key_of r)
 
 abbrev pub date_of : Row → Option ℕ
@@ -68,17 +69,8 @@ IsAmong R name names r = IfSome (name r) (λ n. list_any (is_at (R n)) names ≡
 
 -- ---- what is read by a name
 
--- the entry of a key, if a table has one
-abbrev pub found_entry : {K V : Type 0} → K → Option V → List (K × V)
-found_entry k None = []
-found_entry k (Some v) = (k, v) ∷ []
-
--- what a table has under a key
-abbrev pub entry_under : {K V : Type 0} → (K → K → Ordering) → Table K V → K → Table K V
-entry_under R es k = found_entry k (find R k es)
-
 -- the readings of a unit on a date
-abbrev pub readings_of : Table UnitPeriod Reading → UnitDay → Table UnitPeriod Reading
+abbrev pub readings_of : Table UnitPeriod Reading → UnitDate → Table UnitPeriod Reading
 readings_of es n = filter (λ e. is_of_unit_on n.unit n.date e.0) es
 
 -- the prices of a date

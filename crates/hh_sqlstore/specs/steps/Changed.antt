@@ -9,8 +9,8 @@ use Rattle.hh_sqlparts.specs.Laws.{AreAlike}
 use Rattle.hh_sqlrows.specs.Contents.{beside_in, registered_of}
 use Rattle.hh_sqlrows.specs.Office.{IsOffice}
 use Rattle.hh_sqlchanges.specs.Writes.{StoresLoad, StoresRun}
-use Rattle.hh_sqlparts.specs.Readings.{OfCommitted, SelectsOnly}
-use Rattle.hh_sqlschema.specs.Leaving.{MayStand}
+use Rattle.hh_sqlparts.specs.steps.Readings.{SelectsOnly}
+use Rattle.hh_sqlrows.specs.Leaving.{MayStand}
 
 -- The connection was open and is open. Everything is committed. If the database was an office's and everything was committed, it was
 -- changed as `Change` says.
@@ -32,6 +32,10 @@ KeepsRun w old new = StoresRun w old new × AreAlike (beside_in new.trees) (besi
 -- nothing was changed, if the disk has returned what was written
 abbrev pub ChangesNothing : State → State → Type 0
 ChangesNothing old new = HasCleanDisk new → SelectsOnly old new
+
+-- `P` holds for an office with everything committed
+abbrev pub OfCommitted : State → Type 0 → Type 0
+OfCommitted old P = IsOffice old.now → old.now ≡ old.committed → P
 
 -- If the disk has returned what was written, and an office was in an open connection with everything committed, a crash leaves what it
 -- would have left before, or that office with such a change.

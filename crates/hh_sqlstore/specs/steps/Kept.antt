@@ -2,7 +2,7 @@
 use Rattle.std.specs.Prelude.{◌≡◌, true, Some, IsTrue}
 use Rattle.sqlite.specs.State.{State}
 use Rattle.hh_sqlrows.specs.Contents.{mark_in}
-use Rattle.hh_sqlschema.specs.Leaving.{IsTakenOver}
+use Rattle.hh_sqlschema.specs.TakenOver.{IsTakenOver}
 
 -- the connection was open and is open; everything is committed, and positions are kept, as before or from now on
 pub record IsMarked (old new : State) : Type 0 where

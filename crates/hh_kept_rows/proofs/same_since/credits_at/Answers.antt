@@ -16,13 +16,13 @@ pub returns : goal.returns
 returns c =
     let run = c.args.run.now in
     let period = c.args.period in
-    let rows = c.rows_of_credits-rows.result.now in
+    let rows = c.rows-rows.result.now in
     let rest = c.split_at.result.1.now in
     let first = c.partition_point-first.result in
     let count = c.partition_point-count.result in
-    let lent = c.rows_of_credits-rows.ensures.rows in
+    let lent = c.rows-rows.ensures.value in
     let back = c.split_at.ensures.back in
-    let sorted = subst (λ es. T (is_sorted credit_key_cmp es)) (sym lent) (from_true _ c.rows_of_credits-rows.ensures.rising) in
+    let sorted = subst (λ es. T (is_sorted credit_key_cmp es)) (sym lent) (from_true _ c.rows-rows.ensures.rising) in
     let rising = credits_rise run period rows sorted in
     let rising_rest = subst (λ es. IsNonDecreasingBy (λ e. ordering_index (credit_order run period e)) es) (sym back)
     (IsNonDecreasingBy-drop (λ e. ordering_index (credit_order run period e)) first rows rising) in

@@ -1,10 +1,10 @@
 use Rattle.hh_keyed_rows.proofs.FieldLaws.{counterparties_codec, range_codec}
-use Rattle.hh_keyed_rows.proofs.KeyCodecs.{amounts_codec, file_codec, no_columns_codec, position_codec, reading_codec, reallocation_codec, registered_party_codec, registered_unit_codec, settings_codec, summary_codec}
+use Rattle.hh_keyed_rows.proofs.KeyCodecs.{amounts_codec, file_codec, no_columns_codec, position_codec, reading_codec, reallocation_codec, registered_party_codec, registered_unit_codec, settings_codec_of, summary_codec}
 use Rattle.hh_keyed_rows.proofs.laws.value_codecs.Goals as goal
 
 pub returns : goal.returns
 returns c = record {
-  settings = settings_codec;
+  settings = settings_codec_of;
   ranges = range_codec;
   parties = registered_party_codec;
   units = registered_unit_codec;

@@ -1,8 +1,8 @@
-use Rattle.std.proofs.Common.{◌≡◌, ◌+◌, ◌++◌, ◌∷◌, [], ◌∙◌, List, arith, subst, sym, take}
+use Rattle.std.proofs.Common.{◌≡◌, ◌+◌, ◌++◌, ◌∷◌, [], List, arith, subst, sym, take}
 use Rattle.sqlite.specs.Held.{state}
 use Rattle.sqlite.specs.State.{HasCleanDisk}
-use Rattle.sqlite.proofs.StateLemmas.{survives_then}
 use Rattle.hh_rows.specs.declared.rows.Row.{Row}
+use Rattle.hh_sqlrows.proofs.FrameLaws.{writes_then}
 use Rattle.hh_sqlrows.proofs.ManyLaws.{take_next}
 use Rattle.hh_sqlchanges.specs.steps.Becoming.{Becomes}
 use Rattle.hh_sqlchanges.specs.steps.FileRows.{with_file_rows}
@@ -17,12 +17,10 @@ rows-preserved g c =
     let one = c.in_ok-write_file_row.ensures in
     let kept = c.rows.invariant in
     let whole : take (c.rows.row-index + 1) c.args.rows.now ≡ take c.rows.row-index c.args.rows.now ++ c.row-item.result ∷ [] = take_next c.args.rows.now c.rows.row-index c.row-item.result (omega arith) c.row-item.is in
-    let before : HasCleanDisk new → HasCleanDisk mid = λ clean. omega (arith, one.survives.clean, clean) in (
-      one.same_reference ∙ kept.0,
-      survives_then old mid new _ _ _ (λ _ db none. none) (λ _ db none. none) kept.1 one.survives,
-      (λ clean inside is.
-          let all = kept.2 (before clean) inside is in
-          subst (λ (rs : List Row). Becomes (with_file_rows rs) old.now new.now) (sym whole) (rows_more (take c.rows.row-index c.args.rows.now) c.row-item.result old.now mid.now new.now all (one.writes clean (kept.3 (before clean) inside) all.stays.is_office))),
-      (λ clean inside. one.inside clean (kept.3 (before clean) inside)),
-      (λ clean inside stands. let last = one.left clean (kept.3 (before clean) inside) stands in let first = kept.4 (before clean) inside last.0 in (first.0, last.1 ∙ first.1)),
-    )
+    let before : HasCleanDisk new → HasCleanDisk mid = λ clean. omega (arith, one.frame.survives.clean, clean) in
+    record {
+      frame = writes_then g.S.Store _ _ _ tt _ kept.frame one.frame;
+      writes = λ clean inside is.
+          let all = kept.writes (before clean) inside is in
+          subst (λ (rs : List Row). Becomes (with_file_rows rs) old.now new.now) (sym whole) (rows_more (take c.rows.row-index c.args.rows.now) c.row-item.result old.now mid.now new.now all (one.writes clean (kept.frame.inside (before clean) inside) all.stays.is_office));
+    }

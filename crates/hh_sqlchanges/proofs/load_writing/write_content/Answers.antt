@@ -7,13 +7,13 @@ use Rattle.hh_sqlchanges.proofs.load_writing.write_content.Goals as goal
 pub returns-clause-writes : goal.returns-clause-writes
 returns-clause-writes g c clean inside is =
     let old = state g.S.Store c.args.tx.now.conn.now in
-    let first = state g.S.Store c.replace_file.new.tx.conn.now in
+    let first = state g.S.Store c.replace.new.tx.conn.now in
     let second = state g.S.Store c.write_file_rows.new.tx.conn.now in
-    let new = state g.S.Store c.replace_references.new.tx.conn.now in
-    let clean_second : HasCleanDisk second = omega (arith, c.replace_references.ensures.survives.clean, clean) in
-    let clean_first : HasCleanDisk first = omega (arith, c.in_ok-write_file_rows.ensures.survives.clean, clean_second) in
-    let in_first = c.in_ok-replace_file.ensures.inside clean_first inside in
-    let in_second = c.in_ok-write_file_rows.ensures.inside clean_second in_first in
-    let file = c.in_ok-replace_file.ensures.puts clean_first inside is in
+    let new = state g.S.Store c.replace_all.new.tx.conn.now in
+    let clean_second : HasCleanDisk second = omega (arith, c.replace_all.ensures.frame.survives.clean, clean) in
+    let clean_first : HasCleanDisk first = omega (arith, c.in_ok-write_file_rows.ensures.frame.survives.clean, clean_second) in
+    let in_first = c.in_ok-replace.ensures.frame.inside clean_first inside in
+    let in_second = c.in_ok-write_file_rows.ensures.frame.inside clean_second in_first in
+    let file = c.in_ok-replace.ensures.puts clean_first inside is in
     let rows = c.in_ok-write_file_rows.ensures.writes clean_second in_first file.is_office in
-    load_made c.args.change.now c.key.result c.file.result.now c.rows.result.now c.references.result.now c.key.ensures c.file.ensures c.rows.ensures c.references.ensures old.now first.now second.now new.now c.replace_references.result file rows (c.replace_references.ensures.puts clean in_second rows.stays.is_office)
+    load_made c.args.change.now c.key.result c.file.result.now c.rows.result.now c.references.result.now c.key.ensures c.file.ensures c.rows.ensures c.references.ensures old.now first.now second.now new.now c.replace_all.result file rows (c.replace_all.ensures.puts clean in_second rows.stays.is_office)

@@ -5,7 +5,7 @@ use Rattle.hh_sqlrows.specs.Forms.{rows_under_keys}
 use Rattle.hh_sqlrows.specs.OfficeTables.{runs}
 use Rattle.hh_kept_rows.specs.Keeping.{periods_of_runs, positions_by}
 use Rattle.hh_sqlparts.specs.BesideAnew.{HasNothingBeside}
-use Rattle.hh_sqlparts.proofs.ReadingLaws.{found_first, found_last, reading_then}
+use Rattle.hh_sqlparts.proofs.ReadingLaws.{only, found_first, found_last, reading_then}
 use Rattle.hh_sqlparts.proofs.beside_anew.select_beside_anew.Goals as goal
 
 pub returns-clause-value : goal.returns-clause-value
@@ -14,9 +14,9 @@ returns-clause-value g c stands is settled =
     let none = state g.S.Store c.select_nothing_beside.new.conn in
     let placed = state g.S.Store c.select_positions_anew.new.conn in
     let new = state g.S.Store c.select_periods_of_runs.new.conn in
-    let first = c.in_ok-select_nothing_beside.ensures.reading in
-    let second = c.in_ok-positions.ensures.reading in
-    let third = c.in_ok-touched.ensures.reading in
+    let first = (only _ _ _ c.in_ok-select_nothing_beside.ensures.frame) in
+    let second = (only _ _ _ c.in_ok-positions.ensures.frame) in
+    let third = (only _ _ _ c.in_ok-touched.ensures.frame) in
     let later = reading_then none placed new second third in
     record {
       nothing = found_first old none new first later (HasNothingBeside old.now.trees) c.in_ok-select_nothing_beside.ensures.value stands is settled;

@@ -9,11 +9,11 @@ use Rattle.hh_rules.specs.History.{Registered, nothing_registered}
 use Rattle.hh_kept_rows.specs.DayRows.{HasRowsOn}
 use Rattle.hh_sqlrows.specs.Contents.{registered_of}
 use Rattle.hh_sqlrows.specs.OfficeTables as tables
-use Rattle.hh_sqlparts.specs.Readings.{SelectsOnly}
+use Rattle.hh_sqlparts.specs.steps.Readings.{SelectsOnly}
 use Rattle.hh_sqlparts.specs.steps.DayParts.{with_day_contracts, with_registered, with_rows_of_units}
 use Rattle.hh_sqlparts.proofs.DayLaws.{day_part, rows_of_day_part}
 use Rattle.hh_sqlparts.proofs.NamedForms.{rows_rise}
-use Rattle.hh_sqlparts.proofs.ReadingLaws.{found_first, found_last, reading_then}
+use Rattle.hh_sqlparts.proofs.ReadingLaws.{only, found_first, found_last, reading_then}
 use Rattle.hh_sqlparts.proofs.day_rows.select_day.Goals as goal
 
 pub returns-clause-value : goal.returns-clause-value
@@ -24,9 +24,9 @@ returns-clause-value g c stands is settled =
     let new = state g.S.Store c.select_of_units.new.conn in
     let date = c.args.date in
     let whole = registered_of old.now.trees in
-    let one : SelectsOnly old first = c.in_ok-select_contracts.ensures.reading in
-    let two : SelectsOnly first second = c.in_ok-select_registered.ensures.reading in
-    let three : SelectsOnly second new = c.in_ok-select_of_units.ensures.reading in
+    let one : SelectsOnly old first = (only _ _ _ c.in_ok-select_contracts.ensures.frame) in
+    let two : SelectsOnly first second = (only _ _ _ c.in_ok-select_registered.ensures.frame) in
+    let three : SelectsOnly second new = (only _ _ _ c.in_ok-select_of_units.ensures.frame) in
     let contracts : IsTrue first.is_open → c.select_contracts.new.part ≡ with_day_contracts date whole nothing_registered = λ stood. search rules in
     let registered = found_first old second new (reading_then old first second one two) three (c.select_registered.new.part ≡ with_registered date whole c.select_contracts.new.part)
     (found_last old first second one two (λ (db : Database). c.select_registered.new.part ≡ with_registered date (registered_of db.trees) c.select_contracts.new.part) c.in_ok-select_registered.ensures.value) stands is settled in

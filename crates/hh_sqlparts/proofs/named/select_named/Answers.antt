@@ -7,12 +7,13 @@ use Rattle.hh_rows.specs.Keys.{contract_key_cmp, settlement_period_cmp, unit_per
 use Rattle.hh_rows.proofs.KeyLaws.{reallocation_key_total}
 use Rattle.hh_sqlrows.specs.Contents.{registered_of}
 use Rattle.hh_sqlrows.specs.Forms.{rows_under_keys}
+use Rattle.hh_sqlrows.specs.OfficeSchema.{office}
 use Rattle.hh_sqlrows.specs.OfficeTables as tables
+use Rattle.hh_sqlrows.proofs.FrameLaws.{reads_as, reads_failed, reads_then}
 use Rattle.hh_sqlparts.specs.steps.Named.{FindsNamed, HasReallocated, price_key_of, reading_key_of, reference_of, volume_key_of}
 use Rattle.hh_sqlparts.proofs.NamedForms.{rows_rise}
 use Rattle.hh_sqlparts.proofs.NamedParts.{judges_by_names}
-use Rattle.hh_sqlparts.proofs.NamedSelects.{found_both}
-use Rattle.hh_sqlparts.proofs.ReadingLaws.{reading_then}
+use Rattle.hh_sqlparts.proofs.ReadingLaws.{only, found_both, reading_then}
 use Rattle.hh_sqlparts.proofs.named.select_named.Goals as goal
 
 pub returns-clause-value : goal.returns-clause-value
@@ -40,17 +41,55 @@ returns-clause-value g c stands office settled =
     let P5 : Database → Type 0 = λ db. FindsNamed settlement_period_cmp price_key_of rows (rows_under_keys tables.period_prices db.trees) c.in_ok-prices.prices in
     let P6 : Database → Type 0 = λ db. FindsNamed contract_key_cmp volume_key_of rows (rows_under_keys tables.contracts db.trees) c.in_ok-contracts.contracts in
     let P7 : Database → Type 0 = λ db. HasReallocated rows (rows_under_keys tables.reallocations db.trees) c.in_ok-reallocations.reallocations in
-    let r6 = reading_then s5 s6 s7 contracts.reading reallocations.reading in
-    let r5 = reading_then s4 s5 s7 prices.reading r6 in
-    let r4 = reading_then s3 s4 s7 meters.reading r5 in
-    let r3 = reading_then s2 s3 s7 references.reading r4 in
-    let r2 = reading_then s1 s2 s7 units.reading r3 in
-    let f6 = found_both s5 s6 s7 contracts.reading reallocations.reading P6 P7 contracts.value reallocations.value in
-    let f5 = found_both s4 s5 s7 prices.reading r6 P5 (λ db. P6 db × P7 db) prices.value f6 in
-    let f4 = found_both s3 s4 s7 meters.reading r5 P4 (λ db. P5 db × (P6 db × P7 db)) meters.value f5 in
-    let f3 = found_both s2 s3 s7 references.reading r4 P3 (λ db. P4 db × (P5 db × (P6 db × P7 db))) references.value f4 in
-    let f2 = found_both s1 s2 s7 units.reading r3 P2 (λ db. P3 db × (P4 db × (P5 db × (P6 db × P7 db)))) (λ stands office _. units.value stands office) f3 in
-    let f1 = found_both s0 s1 s7 parties.reading r2 P1 (λ db. P2 db × (P3 db × (P4 db × (P5 db × (P6 db × P7 db))))) (λ stands office _. parties.value stands office) f2 in
+    let r6 = reading_then s5 s6 s7 (only _ _ _ contracts.frame) (only _ _ _ reallocations.frame) in
+    let r5 = reading_then s4 s5 s7 (only _ _ _ prices.frame) r6 in
+    let r4 = reading_then s3 s4 s7 (only _ _ _ meters.frame) r5 in
+    let r3 = reading_then s2 s3 s7 (only _ _ _ references.frame) r4 in
+    let r2 = reading_then s1 s2 s7 (only _ _ _ units.frame) r3 in
+    let f6 = found_both s5 s6 s7 (only _ _ _ contracts.frame) (only _ _ _ reallocations.frame) P6 P7 contracts.value reallocations.value in
+    let f5 = found_both s4 s5 s7 (only _ _ _ prices.frame) r6 P5 (λ db. P6 db × P7 db) prices.value f6 in
+    let f4 = found_both s3 s4 s7 (only _ _ _ meters.frame) r5 P4 (λ db. P5 db × (P6 db × P7 db)) meters.value f5 in
+    let f3 = found_both s2 s3 s7 (only _ _ _ references.frame) r4 P3 (λ db. P4 db × (P5 db × (P6 db × P7 db))) references.value f4 in
+    let f2 = found_both s1 s2 s7 (only _ _ _ units.frame) r3 P2 (λ db. P3 db × (P4 db × (P5 db × (P6 db × P7 db)))) (λ stands office _. units.value stands office) f3 in
+    let f1 = found_both s0 s1 s7 (only _ _ _ parties.frame) r2 P1 (λ db. P2 db × (P3 db × (P4 db × (P5 db × (P6 db × P7 db))))) (λ stands office _. parties.value stands office) f2 in
     let all = f1 stands office settled in
     judges_by_names (registered_of s0.now.trees) _ all.0 all.1.0 rows (true_from _ (rows_rise tables.reallocations reallocation_key_total s0.now.trees))
     all.1.1.0 all.1.1.1.0 all.1.1.1.1.0 all.1.1.1.1.1.0 all.1.1.1.1.1.1
+
+pub returns-in_err-reallocations-clause-frame : goal.returns-in_err-reallocations-clause-frame
+returns-in_err-reallocations-clause-frame g c =
+    let s0 = state g.S.Store c.args.conn.now in
+    let s1 = state g.S.Store c.all_parties.new.conn in
+    let s2 = state g.S.Store c.all_units.new.conn in
+    let s3 = state g.S.Store c.select_references_named.new.conn in
+    let s4 = state g.S.Store c.select_meters_named.new.conn in
+    let s5 = state g.S.Store c.select_prices_named.new.conn in
+    let s6 = state g.S.Store c.select_contracts_named.new.conn in
+    let s7 = state g.S.Store c.select_reallocations_named.new.conn in
+    let r1 = c.in_ok-parties.ensures.frame in
+    let r2 = reads_then office s0 s1 s2 _ _ r1 c.in_ok-units.ensures.frame in
+    let r3 = reads_then office s0 s2 s3 _ _ r2 c.in_ok-references.ensures.frame in
+    let r4 = reads_then office s0 s3 s4 _ _ r3 c.in_ok-meters.ensures.frame in
+    let r5 = reads_then office s0 s4 s5 _ _ r4 c.in_ok-prices.ensures.frame in
+    let r6 = reads_then office s0 s5 s6 _ _ r5 c.in_ok-contracts.ensures.frame in
+    let r7 = reads_then office s0 s6 s7 _ _ r6 c.select_reallocations_named.ensures.frame in
+    reads_failed _ s0 s7 _ _ c.from_residual-in_err-reallocations.ensures.1 r7
+
+pub returns-clause-frame : goal.returns-clause-frame
+returns-clause-frame g c =
+    let s0 = state g.S.Store c.args.conn.now in
+    let s1 = state g.S.Store c.all_parties.new.conn in
+    let s2 = state g.S.Store c.all_units.new.conn in
+    let s3 = state g.S.Store c.select_references_named.new.conn in
+    let s4 = state g.S.Store c.select_meters_named.new.conn in
+    let s5 = state g.S.Store c.select_prices_named.new.conn in
+    let s6 = state g.S.Store c.select_contracts_named.new.conn in
+    let s7 = state g.S.Store c.select_reallocations_named.new.conn in
+    let r1 = c.in_ok-parties.ensures.frame in
+    let r2 = reads_then office s0 s1 s2 _ _ r1 c.in_ok-units.ensures.frame in
+    let r3 = reads_then office s0 s2 s3 _ _ r2 c.in_ok-references.ensures.frame in
+    let r4 = reads_then office s0 s3 s4 _ _ r3 c.in_ok-meters.ensures.frame in
+    let r5 = reads_then office s0 s4 s5 _ _ r4 c.in_ok-prices.ensures.frame in
+    let r6 = reads_then office s0 s5 s6 _ _ r5 c.in_ok-contracts.ensures.frame in
+    let r7 = reads_then office s0 s6 s7 _ _ r6 c.in_ok-reallocations.ensures.frame in
+    reads_as s0 s7 _ _ r7

@@ -2,8 +2,8 @@ use Rattle.std.proofs.Common.{◌≡◌, rules, subst}
 use Rattle.sqlite.specs.Held.{state}
 use Rattle.sqlite.specs.State.{Survives}
 use Rattle.hh_sqlchanges.specs.Writes.{ChangesByRun}
-use Rattle.hh_sqlschema.specs.Leaving.{MayStand}
-use Rattle.hh_sqlschema.proofs.CommitLaws.{survives_making}
+use Rattle.hh_sqlrows.specs.Leaving.{MayStand}
+use Rattle.hh_sqlrows.proofs.CommitLaws.{survives_making}
 use Rattle.hh_sqlstore.proofs.changing.commit_run.Goals as goal
 
 pub returns-in-Err-clause-crash : goal.returns-in-Err-clause-crash

@@ -7,6 +7,7 @@ use Rattle.hh_sqlrows.specs.Office.{IsOffice}
 use Rattle.hh_sqlchanges.specs.Writes.{ChangesByLoad}
 use Rattle.hh_sqlchanges.proofs.BesideLaws.{alike_after_load}
 use Rattle.hh_sqlstore.specs.steps.Changed.{KeepsLoad}
+use Rattle.hh_sqlparts.proofs.ReadingLaws.{only}
 use Rattle.hh_sqlstore.proofs.ChangeLaws.{may_change_after, nothing_after}
 use Rattle.hh_sqlstore.proofs.changing.keep_load.Goals as goal
 
@@ -14,7 +15,7 @@ pub returns-clause-made : goal.returns-clause-made
 returns-clause-made g c clean =
     let old = state g.S.Store c.args.connection.now in
     let new = state g.S.Store c.commit_load.new.connection in
-    let reading = c.in_ok-positions.ensures.reading in
+    let reading = (only _ _ _ c.in_ok-positions.ensures.frame) in
     let w = c.args.change.now in
     on_ok_weaker c.commit_load.result (λ changed.
     let was_settled = c.requires.settled (reading.stood changed.was_open) in
@@ -32,7 +33,7 @@ returns-clause-made g c clean =
 pub returns-clause-undone : goal.returns-clause-undone
 returns-clause-undone g c =
     on_err_weaker c.commit_load.result
-    (nothing_after (state g.S.Store c.args.connection.now) (state g.S.Store c.select_positions_after.new.conn) (state g.S.Store c.commit_load.new.connection) c.in_ok-positions.ensures.reading)
+    (nothing_after (state g.S.Store c.args.connection.now) (state g.S.Store c.select_positions_after.new.conn) (state g.S.Store c.commit_load.new.connection) (only _ _ _ c.in_ok-positions.ensures.frame))
     c.commit_load.ensures.undone
 
 pub returns-clause-crash : goal.returns-clause-crash
@@ -43,7 +44,7 @@ returns-clause-crash g c =
     let read = c.in_ok-positions.ensures in
     let w = c.args.change.now in
     may_change_after (ChangesByLoad w c.in_ok-positions.positions.items c.in_ok-touched.touched.items) (KeepsLoad w) old mid new c.in_ok-positions.positions
-    read.reading read.safe c.commit_load.ensures.honest
+    read.frame c.commit_load.ensures.honest
     (rw c.deref-2.ensures.value at (rw c.deref.ensures.value at c.commit_load.ensures.crash))
     (λ still office settled db written. (
       written.stores,

@@ -2,8 +2,8 @@ use Rattle.std.proofs.Common.{◌≡◌, refl, rules, subst}
 use Rattle.sqlite.specs.Held.{state}
 use Rattle.sqlite.specs.State.{Survives}
 use Rattle.hh_sqlchanges.specs.Writes.{WritesBesideAnew}
-use Rattle.hh_sqlschema.specs.Leaving.{MayStand}
-use Rattle.hh_sqlschema.proofs.CommitLaws.{survives_making}
+use Rattle.hh_sqlrows.specs.Leaving.{MayStand}
+use Rattle.hh_sqlrows.proofs.CommitLaws.{survives_making}
 use Rattle.hh_sqlstore.proofs.keeping.commit_beside.Goals as goal
 
 pub returns-in-Err-clause-crash : goal.returns-in-Err-clause-crash
@@ -12,7 +12,7 @@ returns-in-Err-clause-crash g c office =
     let mid = state g.S.Store c.write_beside_anew.new.tx.conn.now in
     let start = c.transaction-tx.ensures.begun in
     let P = WritesBesideAnew c.args.beside.now.positions.items c.args.beside.now.touched.items old.now in
-    let made = survives_making g.S.Store P c.args.connection.now mid (state g.S.Store c.commit.new.self.0) (rw start at c.in_ok-write_beside_anew.ensures.survives)
+    let made = survives_making g.S.Store P c.args.connection.now mid (state g.S.Store c.commit.new.self.0) (rw start at c.in_ok-write_beside_anew.ensures.frame.survives)
     (λ clean. rw c.deref-2.ensures.value at (rw c.deref.ensures.value at ((rw start at c.in_ok-write_beside_anew.ensures.writes) clean refl office))) c.in-Err.ensures.survives in
     let same : c.commit.new.self.0 ≡ c.connection-2-1.given.0 = search rules in
     subst (λ h. Survives old (state g.S.Store h) (MayStand P)) same made

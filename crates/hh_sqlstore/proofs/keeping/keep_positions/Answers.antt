@@ -4,7 +4,8 @@ use Rattle.sqlite.specs.Effect.{Database}
 use Rattle.sqlite.specs.Held.{state}
 use Rattle.hh_sqlrows.specs.Office.{IsOffice}
 use Rattle.hh_sqlchanges.specs.Writes.{WritesBesideAnew}
-use Rattle.hh_sqlschema.specs.Leaving.{KeepsBeside}
+use Rattle.hh_sqlschema.specs.TakenOver.{KeepsBeside}
+use Rattle.hh_sqlparts.proofs.ReadingLaws.{only}
 use Rattle.hh_sqlstore.proofs.BesideLaws.{kept_beside}
 use Rattle.hh_sqlstore.proofs.KeepingLaws.{may_keep_made}
 use Rattle.hh_sqlstore.proofs.keeping.keep_positions.Goals as goal
@@ -14,7 +15,7 @@ returns-clause-kept g c clean =
     let old = state g.S.Store c.args.connection.now in
     let new = state g.S.Store c.commit_beside.new.connection in
     let found = c.in_ok-beside.beside in
-    let reading = c.in_ok-beside.ensures.reading in
+    let reading = (only _ _ _ c.in_ok-beside.ensures.frame) in
     on_ok_weaker c.commit_beside.result (λ changed.
     let stands = reading.stood changed.was_open in
     let office = c.requires.office stands in
@@ -37,11 +38,11 @@ returns-clause-crash g c =
     let mid = state g.S.Store c.select_beside_anew.new.conn in
     let new = state g.S.Store c.commit_beside.new.connection in
     let found = c.in_ok-beside.beside in
-    let reading = c.in_ok-beside.ensures.reading in
-    let safe = c.in_ok-beside.ensures.safe in
+    let reading = (only _ _ _ c.in_ok-beside.ensures.frame) in
+    let safe = c.in_ok-beside.ensures.frame in
     may_keep_made old mid new
-    (λ stands. safe.crash stands (c.requires.office stands) (c.requires.settled stands))
-    (λ stands clean. let up = safe.stays clean stands in (up, (reading.left up (c.requires.office stands) (c.requires.settled stands)).1))
+    (λ stands. safe.crash stands (c.requires.office stands, c.requires.settled stands))
+    (λ stands clean. let up = safe.stays stands clean in (up, (reading.left up (c.requires.office stands) (c.requires.settled stands)).1))
     c.commit_beside.ensures.honest (WritesBesideAnew found.positions.items found.touched.items mid.now)
     (λ up.
     let stands = reading.stood up in

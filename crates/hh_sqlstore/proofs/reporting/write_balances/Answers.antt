@@ -7,7 +7,7 @@ use Rattle.hh_store.specs.Outputs.{Outputs}
 use Rattle.hh_sqlrows.specs.Contents.{posted_amount}
 use Rattle.hh_sqlrows.specs.Forms.{rows_under_keys}
 use Rattle.hh_sqlrows.specs.OfficeTables.{parties, postings}
-use Rattle.hh_sqlparts.proofs.ReadingLaws.{found_last}
+use Rattle.hh_sqlparts.proofs.ReadingLaws.{only, found_last}
 use Rattle.hh_sqlstore.proofs.ReportLaws.{behind_nothing, front_of_more, told_on}
 use Rattle.hh_sqlstore.proofs.reporting.write_balances.Goals as goal
 
@@ -29,7 +29,7 @@ returns-clause-writes g c stands is settled =
     let ids = map (λ e. e.0) (rows_under_keys parties old.now.trees) in
     let sums = c.in_ok-sums.ensures.sums in
     let nothing = c.in_ok-sums.ensures.nothing in
-    let went = found_last old mid new c.in_ok-sums.ensures.reading c.write_parties.ensures.reading
+    let went = found_last old mid new (only _ _ _ c.in_ok-sums.ensures.frame) (only _ _ _ c.write_parties.ensures.frame)
     (λ db. Outputs later (balances_text (map (λ e. e.0) (rows_under_keys parties db.trees)) (λ a. sum_for a sums.0)) c.write_parties.result) (c.write_parties.ensures.writes sums.0 sums.1) stands is settled in
-    subst (λ amounts. Outputs device (balances_text ids (λ a. sum_for a amounts)) c.write_parties.result) (sums.2 (c.write_parties.ensures.reading.stood stands) is settled)
+    subst (λ amounts. Outputs device (balances_text ids (λ a. sum_for a amounts)) c.write_parties.result) (sums.2 ((only _ _ _ c.write_parties.ensures.frame).stood stands) is settled)
     (behind_nothing _ _ _ _ _ _ (balances_text ids (λ a. sum_for a sums.0)) c.write_parties.result nothing.0 nothing.1 went)

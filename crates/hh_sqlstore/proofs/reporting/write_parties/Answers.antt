@@ -24,20 +24,20 @@ returns-in_err-writer-clause-writes g c amounts has stands is settled =
     let on = goes_on_by id_of (λ ids. balances_text ids balance) (λ ids. balances_text ids balance) [] rows (rows, refl) (λ later same. c.reports_go_on.ensures.balances balance [] later) in
     told_as_output device (balances_text (map id_of rows) balance) c.in_err-writer.field-0.0 c.from_residual.result c.from_residual.ensures.1 (front_of_more device _ _ on sent.0, sent.1)
 
-pub returns-in_err-give_parties-clause-writes : goal.returns-in_err-give_parties-clause-writes
-returns-in_err-give_parties-clause-writes g c amounts has stands is settled =
+pub returns-in_err-give_all-clause-writes : goal.returns-in_err-give_all-clause-writes
+returns-in_err-give_all-clause-writes g c amounts has stands is settled =
     let rows = rows_under_keys parties (state g.S.Store c.args.conn.now).now.trees in
     let balance : Account → ℤ = λ a. sum_for a amounts in
-    let device = change g.O.Sink.taken g.O.Sink.failures c.args.out.now c.give_parties.new.out in
-    let given = c.in_err-give_parties.ensures.gives c.args.out.now amounts (c.in_ok-writer.ensures amounts has) in
+    let device = change g.O.Sink.taken g.O.Sink.failures c.args.out.now c.give_all.new.out in
+    let given = c.in_err-give_all.ensures.gives c.args.out.now amounts (c.in_ok-writer.ensures amounts has) in
     let on = goes_on_by id_of (λ ids. balances_text ids balance) (λ ids. balances_text ids balance) given.0 rows (given.2 stands is) (λ later same. c.reports_go_on.ensures.balances balance (map id_of given.0) later) in
-    told_on device (balances_text (map id_of rows) balance) c.in_err-give_parties.field-0.0 c.from_residual-in_err-give_parties.result c.from_residual-in_err-give_parties.ensures.1 (front_of_more device _ _ on given.1.0, given.1.1)
+    told_on device (balances_text (map id_of rows) balance) c.in_err-give_all.field-0.0 c.from_residual-in_err-give_all.result c.from_residual-in_err-give_all.ensures.1 (front_of_more device _ _ on given.1.0, given.1.1)
 
 pub returns-in_err-finish-clause-writes : goal.returns-in_err-finish-clause-writes
 returns-in_err-finish-clause-writes g c amounts has stands is settled =
     let balance : Account → ℤ = λ a. sum_for a amounts in
     let device = change g.O.Sink.taken g.O.Sink.failures c.args.out.now c.finish.new.out in
-    let given = c.in_ok-give_parties.ensures.gives c.args.out.now amounts (c.in_ok-writer.ensures amounts has) in
+    let given = c.in_ok-give_all.ensures.gives c.args.out.now amounts (c.in_ok-writer.ensures amounts has) in
     let sent = c.in_err-finish.ensures c.args.out.now amounts (map id_of given.0) given.1 in
     subst (λ all. Outputs device {A = Unit {0}} (balances_text (map id_of all) balance) c.from_residual-in_err-finish.result) (given.2 stands is)
     (told_as_output device (balances_text (map id_of given.0) balance) c.in_err-finish.field-0.0 c.from_residual-in_err-finish.result c.from_residual-in_err-finish.ensures.1 sent)
@@ -46,7 +46,7 @@ pub returns-in_err-finish-clause-counted : goal.returns-in_err-finish-clause-cou
 returns-in_err-finish-clause-counted g c amounts has =
     let balance : Account → ℤ = λ a. sum_for a amounts in
     let device = change g.O.Sink.taken g.O.Sink.failures c.args.out.now c.finish.new.out in
-    let given = c.in_ok-give_parties.ensures.gives c.args.out.now amounts (c.in_ok-writer.ensures amounts has) in
+    let given = c.in_ok-give_all.ensures.gives c.args.out.now amounts (c.in_ok-writer.ensures amounts has) in
     let sent = c.in_err-finish.ensures c.args.out.now amounts (map id_of given.0) given.1 in
     counted_by device (balances_text (map id_of given.0) balance) c.from_residual-in_err-finish.result
     (told_as_output device (balances_text (map id_of given.0) balance) c.in_err-finish.field-0.0 c.from_residual-in_err-finish.result c.from_residual-in_err-finish.ensures.1 sent)
@@ -55,11 +55,11 @@ pub returns-clause-writes : goal.returns-clause-writes
 returns-clause-writes g c amounts has stands is settled =
     let balance : Account → ℤ = λ a. sum_for a amounts in
     let device = change g.O.Sink.taken g.O.Sink.failures c.args.out.now c.finish.new.out in
-    let given = c.in_ok-give_parties.ensures.gives c.args.out.now amounts (c.in_ok-writer.ensures amounts has) in
+    let given = c.in_ok-give_all.ensures.gives c.args.out.now amounts (c.in_ok-writer.ensures amounts has) in
     let sent = c.in_ok-finish.ensures c.args.out.now amounts (map id_of given.0) given.1 in
     subst (λ all. Outputs device {A = Unit {0}} (balances_text (map id_of all) balance) (Ok tt)) (given.2 stands is) sent
 
 pub returns-clause-counted : goal.returns-clause-counted
 returns-clause-counted g c amounts has =
-    let given = c.in_ok-give_parties.ensures.gives c.args.out.now amounts (c.in_ok-writer.ensures amounts has) in
+    let given = c.in_ok-give_all.ensures.gives c.args.out.now amounts (c.in_ok-writer.ensures amounts has) in
     (c.in_ok-finish.ensures c.args.out.now amounts (map id_of given.0) given.1).1

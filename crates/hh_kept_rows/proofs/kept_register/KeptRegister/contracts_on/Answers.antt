@@ -8,7 +8,7 @@ use Rattle.hh_kept_rows.proofs.kept_register.KeptRegister.contracts_on.Goals.{in
 
 pub loop-key-preserved : goal.loop-key-preserved
 loop-key-preserved c =
-    let lent = c.rows-key-items.ensures ∙ ap (λ (t : Registered). t.contracts) c.self.view_is in
+    let lent = c.rows-key-items.ensures.value ∙ ap (λ (t : Registered). t.contracts) c.self.view_is in
     elim c.match-contract_on.branch [
       | in-Some+in_ok-push w ↦
           found_more (contract_on c.args.self.now c.args.account.now c.args.date) c.args.self.now.contracts c.rows-key-items.result.now lent c.loop-key.key-index c.loop-key-item.result (omega arith) c.loop-key-item.is

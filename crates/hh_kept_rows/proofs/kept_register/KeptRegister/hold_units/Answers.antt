@@ -23,7 +23,7 @@ loop-place-preserved c = record {
 
 pub returns-clause-agrees : goal.returns-clause-agrees
 returns-clause-agrees c lead_minutes part =
-    let lent = c.rows-row-items.ensures ∙ ap (λ (t : Registered). t.units) c.self.view_is in
+    let lent = c.rows-row-items.ensures.value ∙ ap (λ (t : Registered). t.units) c.self.view_is in
     all_units c.args.self.now lead_minutes c.loop-place.part (part_grown c.args.self.now lead_minutes c.args.part.now c.loop-place.part part c.loop-place.invariant.grows)
     (subst (All (λ e. AgreesOnUnit c.args.self.now (tables_in c.loop-place.part) e.0)) (take_all c.loop-place.place c.rows-row-items.result.now c.loop-place-test.false ∙ lent)
     (c.loop-place.invariant.agrees lead_minutes part))

@@ -7,7 +7,7 @@ use Rattle.hh_plain_tables.proofs.kept_runs.KeptRuns.results_of.Goals as goal
 pub returns-in-Some : goal.returns-in-Some
 returns-in-Some c =
     subst (λ found. IfOk c.results_of.result (λ rows. rows.items ≡ found))
-    (ap (filter_map (result_in c.args.run.now)) c.rows.ensures
+    (ap (filter_map (result_in c.args.run.now)) c.rows.ensures.value
     ∙ results_in_run c.args.run.now c.self.inside.runs c.self.invariant c.in-Some.kept.now c.in-Some.ensures.value
     ∙ ap (λ (k : RunTables). filter_map (result_in c.args.run.now) k.results) c.self.view_is) c.results_of.ensures
 

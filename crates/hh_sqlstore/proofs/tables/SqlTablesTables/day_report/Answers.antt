@@ -6,6 +6,7 @@ use Rattle.hh_store.specs.Outputs.{Outputs, day_report_with, reported_as}
 use Rattle.hh_store.specs.declared.output_fault.OutputFault.{OutputFault}
 use Rattle.hh_sqlrows.specs.Contents.{content_of, period_row, rows_of_run}
 use Rattle.hh_sqlstore.specs.Stores.{Stored, content_in}
+use Rattle.hh_sqlparts.proofs.ReadingLaws.{only}
 use Rattle.hh_sqlstore.proofs.IdleLaws.{of_committed}
 use Rattle.hh_sqlstore.proofs.ReadLaws.{results_picked}
 use Rattle.hh_sqlstore.proofs.ReportLaws.{reported_so}
@@ -18,7 +19,7 @@ returns-in-Ok-clause-writes g c stands =
     let run = c.args.run.now in
     let summary = c.args.summary.now in
     let trees = (state g.S.Store c.self.inside.connection).committed.trees in
-    let written = of_committed g.S.Store _ c.self.invariant c.write_day_report.new.conn c.self.inside.refusals c.in-Ok.ensures.reading
+    let written = of_committed g.S.Store _ c.self.invariant c.write_day_report.new.conn c.self.inside.refusals (only _ _ _ c.in-Ok.ensures.frame)
     (λ trees. Outputs device {A = Unit {0}} (day_report_text c.reported_as-reported.result (map period_row (rows_of_run run trees))) (Ok tt)) c.in-Ok.ensures.writes stands in
     let told : Outputs device {A = Unit {0}} (day_report_with (content_of c.self.inside.settings trees) run summary) (Ok tt) =
     reported_so {A = Unit {0}} device (Ok tt) day_report_text c.reported_as-reported.result (reported_as run summary) c.reported_as-reported.ensures _ _ (results_picked run trees) written in
@@ -30,7 +31,7 @@ returns-in-Err-clause-writes g c stands =
     let run = c.args.run.now in
     let summary = c.args.summary.now in
     let trees = (state g.S.Store c.self.inside.connection).committed.trees in
-    let written = of_committed g.S.Store _ c.self.invariant c.write_day_report.new.conn c.self.inside.refusals c.in-Err.ensures.reading
+    let written = of_committed g.S.Store _ c.self.invariant c.write_day_report.new.conn c.self.inside.refusals (only _ _ _ c.in-Err.ensures.frame)
     (λ trees. Outputs device {A = Unit {0}} (day_report_text c.reported_as-reported.result (map period_row (rows_of_run run trees))) (Err c.in-Err.fault)) c.in-Err.ensures.writes stands in
     let told : Outputs device {A = Unit {0}} (day_report_with (content_of c.self.inside.settings trees) run summary) (Err c.in-Err.fault) =
     reported_so {A = Unit {0}} device (Err c.in-Err.fault) day_report_text c.reported_as-reported.result (reported_as run summary) c.reported_as-reported.ensures _ _ (results_picked run trees) written in
@@ -39,8 +40,8 @@ returns-in-Err-clause-writes g c stands =
 
 pub returns-in-Ok-clause-crash : goal.returns-in-Ok-clause-crash
 returns-in-Ok-clause-crash g c =
-    reading_adds_nothing g.S.Store _ c.self.invariant c.write_day_report.new.conn c.self.inside.refusals (λ P. P) c.in-Ok.ensures.safe.stays c.in-Ok.ensures.safe.honest c.in-Ok.ensures.safe.crash _ c.self.view_is
+    reading_adds_nothing g.S.Store _ c.self.invariant c.write_day_report.new.conn c.self.inside.refusals (λ P. P) c.in-Ok.ensures.frame.stays c.in-Ok.ensures.frame.honest c.in-Ok.ensures.frame.crash _ c.self.view_is
 
 pub returns-in-Err-clause-crash : goal.returns-in-Err-clause-crash
 returns-in-Err-clause-crash g c =
-    reading_adds_nothing g.S.Store _ c.self.invariant c.write_day_report.new.conn c.refuse_report.new.refusals (λ P. Unit {0}) (λ clean stands. tt) c.in-Err.ensures.safe.honest c.in-Err.ensures.safe.crash _ c.self.view_is
+    reading_adds_nothing g.S.Store _ c.self.invariant c.write_day_report.new.conn c.refuse_report.new.refusals (λ P. Unit {0}) (λ stands clean. tt) c.in-Err.ensures.frame.honest c.in-Err.ensures.frame.crash _ c.self.view_is

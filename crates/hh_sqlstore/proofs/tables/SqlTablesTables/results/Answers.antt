@@ -3,8 +3,8 @@ use Rattle.hh_sqlstore.proofs.tables.SqlTablesTables.results.Goals as goal
 
 pub returns-in-Ok-clause-crash : goal.returns-in-Ok-clause-crash
 returns-in-Ok-clause-crash g c =
-    reading_adds_nothing g.S.Store _ c.self.invariant c.results_of_run.new.conn c.self.inside.refusals (λ P. P) c.in-Ok.ensures.safe.stays c.in-Ok.ensures.safe.honest c.in-Ok.ensures.safe.crash _ c.self.view_is
+    reading_adds_nothing g.S.Store _ c.self.invariant c.results_of_run.new.conn c.self.inside.refusals (λ P. P) c.in-Ok.ensures.frame.stays c.in-Ok.ensures.frame.honest c.in-Ok.ensures.frame.crash _ c.self.view_is
 
 pub returns-in-Err-clause-crash : goal.returns-in-Err-clause-crash
 returns-in-Err-clause-crash g c =
-    reading_adds_nothing g.S.Store _ c.self.invariant c.results_of_run.new.conn c.refuse.new.refusals (λ P. Unit {0}) (λ clean stands. tt) c.in-Err.ensures.safe.honest c.in-Err.ensures.safe.crash _ c.self.view_is
+    reading_adds_nothing g.S.Store _ c.self.invariant c.results_of_run.new.conn c.refuse.new.refusals (λ P. Unit {0}) (λ stands clean. tt) c.in-Err.ensures.frame.honest c.in-Err.ensures.frame.crash _ c.self.view_is

@@ -1,7 +1,7 @@
 use Rattle.std.proofs.Common.{subst}
 use Rattle.sqlite.specs.Held.{state}
 use Rattle.hh_store.specs.Crashes.{LeavesContent}
-use Rattle.hh_sqlschema.specs.Holds.{TreesHold}
+use Rattle.hh_sqlrows.specs.Holds.{TreesHold}
 use Rattle.hh_sqlstore.specs.Stores.{Stored, content_in}
 use Rattle.hh_sqlstore.proofs.CrashLaws.{left_holds}
 use Rattle.hh_sqlstore.proofs.tables.SqlTablesTables.shows_left.Goals as goal

@@ -6,9 +6,9 @@ use Rattle.jiff.proofs.SpanFacts.{signed_arith}
 use Rattle.hh_time.specs.DateText.{date_text, text_of}
 use Rattle.hh_time.proofs.date.SettlementDate.text.Goals as goal
 
-pub returns : goal.returns
+pub returns-clause-value : goal.returns-clause-value
 unfolding date_text
-returns c =
+returns-clause-value c =
     let date = c.date-date.result in
     let accepted = c.date-date.ensures.accepted in
     let long = days_in_month_bounds date.year date.month in

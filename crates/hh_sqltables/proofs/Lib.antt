@@ -1,0 +1,16 @@
+pub mod AnswerLaws
+pub mod FrameLaws
+pub mod CreateLaws
+pub mod DeleteLaws
+pub mod FormLaws
+pub mod GroupLaws
+pub mod InsertLaws
+pub mod InsideLaws
+pub mod ManyKeys
+pub mod ManyLaws
+pub mod PutLaws
+pub mod SelectLaws
+pub mod StreamLaws
+pub mod UpdateFormLaws
+pub mod UpdateLaws
+pub mod WhereLaws
