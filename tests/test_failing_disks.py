@@ -1,7 +1,7 @@
 """An office in a file whose disk fails, by `failing_disk.c`: each read, write or sync of the database, or of its log, after none of
 them, after one, and so on until none fails. `sqlite3` then reads what is left, if nothing is lost and if all is lost that was not
-synced: it is what was there before the request that met the failure, or after it. From there the office goes on, and all that is
-asked again gets the right answers.
+synced: it is what was there before the request that met the failure, or after it. From each third of that, or by `tests/run --long`
+from all of it, the office goes on, and all that is asked again gets the right answers.
 
 Scripts are run by `hh_bench office`. With few pages in memory the program writes pages, and copies the log into the database's
 file, during requests. With many it writes the database's file when it closes it."""
