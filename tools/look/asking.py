@@ -1,5 +1,7 @@
-"""The proved program, asked over a copy of an office. So each answer is its own, and the office stays as it is."""
+"""The proved program, asked over a copy of an office or over an office in memory. So each answer is its own, and the office stays as it
+is."""
 
+import collections
 import contextlib
 import http.client
 import json
@@ -10,11 +12,16 @@ import time
 
 from sources import PROGRAM
 
+from .copying import copy_office
 from .telling import Fault
 
 PATIENCE = 600  # seconds
+SCRIPT = "script"  # the name of its file
 KEY = re.compile(rb"op-[A-Za-z0-9]{8,61}|[A-Za-z0-9]{8,64}")
 KEY_BYTES = 4_096  # of a file of a key are read
+
+# What a script writes, the explanations of its lines by their numbers, and the last line on standard error.
+Answered = collections.namedtuple("Answered", "said whys last")
 
 
 def program():
@@ -43,10 +50,10 @@ def moment_of(asked):
     return int(time.time()) if asked.at is None else asked.at
 
 
-def call(*words):
-    """Calls the program. What it wrote on standard output, and on standard error."""
+def call(folder, *words):
+    """Calls the program in a folder. What it wrote on standard output, and on standard error."""
     try:
-        made = subprocess.run([program(), *words], stdin=subprocess.DEVNULL, capture_output=True, timeout=PATIENCE)
+        made = subprocess.run([program(), *words], cwd=folder, stdin=subprocess.DEVNULL, capture_output=True, timeout=PATIENCE)
     except (OSError, subprocess.TimeoutExpired) as error:
         raise Fault(f"{program()}: it can't be asked: {error}") from None
     return made.stdout.decode(errors="replace"), made.stderr.decode(errors="replace")
@@ -60,17 +67,19 @@ def put_aside(path, data):
 
 
 @contextlib.contextmanager
-def served(copy, moment):
-    """The port of a service on a copy, to which all comes at one moment."""
-    words = [program(), "serve", "--db", copy, "--port", "0", f"--at={moment}"]
-    with subprocess.Popen(words, stdin=subprocess.DEVNULL, stdout=subprocess.PIPE, stderr=subprocess.PIPE, text=True) as service:
+def listening(folder, *words):
+    """A program that is called in a folder. What it writes is read line by line. It is ended."""
+    pipe = subprocess.PIPE
+    with subprocess.Popen([program(), *words], cwd=folder, stdin=subprocess.DEVNULL, stdout=pipe, stderr=pipe, text=True) as service:
         try:
-            said = service.stdout.readline()
-            if not said.startswith("listening "):
-                raise Fault(f"{program()}: it doesn't serve a copy: {service.stderr.readline().strip() or 'it said nothing'}")
-            yield int(said.rpartition(":")[2])
+            yield service
         finally:
             service.terminate()
+
+
+def port_of(line):
+    """The port on which a service says that it listens. None if it says something else."""
+    return int(line.rpartition(":")[2]) if line.startswith("listening ") else None
 
 
 def sent(port, key, kind, name, body):
@@ -83,3 +92,38 @@ def sent(port, key, kind, name, body):
         raise Fault(f"{program()}: a service on a copy gave no reply: {error}") from None
     finally:
         connection.close()
+
+
+class WholeCopy:
+    """The way to ask over a copy of the whole office, which the program reads from end to end each time that it opens it."""
+
+    def __init__(self, copy):
+        self.copy, self.folder = copy, os.path.dirname(copy)
+
+    @contextlib.contextmanager
+    def served(self, moment):
+        """The port of a service, to which all comes at one moment. What it accepts stays in a copy of its own."""
+        other = os.path.join(self.folder, "served.db")
+        copy_office(self.copy, other)
+        with listening(self.folder, "serve", "--db", other, "--port", "0", f"--at={moment}") as service:
+            port = port_of(service.stdout.readline())
+            if port is None:
+                raise Fault(f"{program()}: it doesn't serve a copy: {service.stderr.readline().strip() or 'it said nothing'}")
+            yield port
+
+    def answered(self, lines):
+        """What is answered to the lines of a script. What they change stays in the copy."""
+        put_script(self.folder, lines)
+        said, told = call(self.folder, "script", "--explain", "--db", self.copy, SCRIPT)
+        return Answered(said, *explained(told))
+
+
+def put_script(folder, lines):
+    """Writes a script, which has a key, where nobody else may read it."""
+    put_aside(os.path.join(folder, SCRIPT), "".join(f"{line}\n" for line in lines).encode())
+
+
+def explained(told, before=0):
+    """The explanation of each line of a script behind the first ones, by its number and without it; and the last line."""
+    found = re.findall(r"(?m)^line (\d+): (.*)", told)
+    return {int(number) - before: why for number, why in found}, told.strip().rpartition("\n")[2]

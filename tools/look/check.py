@@ -1,20 +1,22 @@
-"""`look check`: all rows of a file that would be refused, and not only the first. The program is asked over a copy; the row that it
-names is taken out, and it is asked again."""
+"""`look check`: all rows of a file that would be refused, and not only the first. The program is asked; the row that it names is taken
+out, and it is asked again."""
 
 import collections
+import contextlib
 import os
 import re
 
-from .asking import call, key_for, moment_of, put_aside, sent, served
-from .copying import copied, copy_office
+from .asking import WholeCopy, key_for, moment_of, put_aside, sent
+from .copying import copied
+from .enough import NEEDED, enough_for, held_under
 from .figures import counted
+from .in_memory import Unlike
 from .office import opened_copy
 from .preview import shown
 from .telling import FAULT, Fault, Told
-from .words import takes_key, takes_office
+from .words import takes_key, takes_office, takes_whole
 
 OPENS_ITSELF = True
-KINDS_OF_FILES = "parties", "units", "meters", "prices", "contracts", "reallocations"
 NAME = re.compile(r"[A-Za-z0-9._-]{1,64}")
 LARGEST = 1_048_576  # bytes that a request may have
 MOST = 100  # faults
@@ -24,7 +26,7 @@ FIELD = rb'(?:"[^"]*(?:""[^"]*)*(?:"[^,\r\n]*|\Z)|[^,\r\n]*)'
 RECORD = re.compile(rb"%b(?:,%b)*(\r\n|\n|\r|\Z)" % (FIELD, FIELD))
 LINE_END = re.compile(rb"\r\n|\n|\r")
 # What the program says before the part of an explanation that is shown.
-PLACE = re.compile(r"line \d+: .*?: (?:row \d+ is line \d+ of the file(?:; |, |$))?")
+PLACE = re.compile(r"\A.*?: (?:row \d+ is line \d+ of the file(?:; |, |$))?")
 
 # A row of the file: its number, the line in which it begins, and its bytes.
 Row = collections.namedtuple("Row", "number line data")
@@ -35,7 +37,8 @@ Trial = collections.namedtuple("Trial", "row name data")
 def take_words(command):
     takes_office(command)
     takes_key(command)
-    command.add_argument("rows", choices=KINDS_OF_FILES, metavar="KIND", help="what the rows are: " + ", ".join(KINDS_OF_FILES))
+    takes_whole(command)
+    command.add_argument("rows", choices=NEEDED, metavar="KIND", help="what the rows are: " + ", ".join(NEEDED))
     command.add_argument("file", metavar="FILE")
 
 
@@ -45,19 +48,16 @@ def tell(_, asked):
     if not NAME.fullmatch(name):
         raise Fault(f"{asked.file}: a file's name has 1 to 64 letters, digits, points, underscores and dashes")
     with copied(asked.db) as copy:
-        folder = os.path.dirname(copy)
-        other = os.path.join(folder, "other.db")
-        copy_office(copy, other)
         with opened_copy(copy, asked.db) as office:
             key = key_for(office, asked.key_file)
-            taken = {held for (held,) in office.rows("SELECT name FROM files")}
-            was_accepted = [(data,)] == office.rows("SELECT body FROM files WHERE kind = ? AND name = ?", asked.rows, name)
-        trials, is_whole = faults(copy, key, moment, asked.rows, name, data, taken)
-        answers = explained(other, key, moment, asked.rows, trials)
+            held = held_under(office, asked.rows, name)
+            names = name, free_name(office)
+            small = None if asked.whole else enough_for(office, os.path.dirname(copy), asked.rows, name, data)
+        trials, answers, is_whole = found_by((small, WholeCopy(copy)), key, moment, asked.rows, names, data)
     head = f"{asked.file}, {asked.rows} that come at {shown(moment)}:"
     if len(trials) == 1:
         ((answer, why),) = answers
-        again = ["It was accepted before. Sent again, it changes nothing."] * was_accepted
+        again = ["It was accepted before. Sent again, it changes nothing."] * (held is not None and held.body == data)
         return Told([head, f"would be accepted: {answer}", *([f"  {why}"] if why else []), *again, "Nothing was changed."])
     return Told([head, *lines_of(trials[:-1], answers), *ending(data, trials, answers, is_whole)], FAULT)
 
@@ -85,20 +85,38 @@ def rows_of(data):
     return header or b"", rows
 
 
-def faults(copy, key, moment, kind, name, data, taken):
-    """What was asked at each refusal, and at the end what is left; and whether all were found."""
+def free_name(office):
+    """A name that no accepted file has."""
+    names = {name for (name,) in office.rows("SELECT name FROM files WHERE name LIKE 'look-%'")}
+    return next(name for name in (f"look-{number}.csv" for number in range(len(names) + 1)) if name not in names)
+
+
+def found_by(ways, key, moment, kind, names, data):
+    """The trials, what each is answered, and whether all faults were found; by the first of the ways to ask that there is."""
+    for way in ways:
+        with contextlib.suppress(Unlike):
+            if way is not None:
+                trials, is_whole = faults(way, key, moment, kind, names, data)
+                return trials, explained(way, key, moment, kind, trials), is_whole
+    raise Unlike  # which asking over the whole copy never does
+
+
+def faults(way, key, moment, kind, names, data):
+    """What was asked at each refusal, and at the end what is left; and whether all were found. If the first name is taken by other
+    bytes, the second one is free."""
+    name, free = names
     if len(data) > LARGEST:
         return [Trial(None, name, data), Trial(None, name, b"")], False
     header, rows = rows_of(data)
     trials = []
-    with served(copy, moment) as port:
+    with way.served(moment) as port:
         while len(trials) < MOST:
             reply = sent(port, key, kind, name, data)
             if "refused" not in reply:
                 return [*trials, Trial(None, name, data)], True
             if reply["refused"] == 20:
                 trials.append(Trial(None, name, data))
-                name = next(other for other in (f"look-{number}.csv" for number in range(len(taken) + 1)) if other not in taken)
+                name = free
             elif "row" in reply and reply["row"] <= len(rows):
                 row = rows.pop(reply["row"] - 1)
                 trials.append(Trial(row, name, data))
@@ -113,21 +131,19 @@ def ended(record):
     return record if record.endswith((b"\n", b"\r")) else record + b"\n"
 
 
-def explained(copy, key, moment, kind, trials):
+def explained(way, key, moment, kind, trials):
     """What the program answers to each of the trials, and how it explains that."""
-    folder, lines = os.path.dirname(copy), []
+    lines = []
     for number, trial in enumerate(trials):
-        place = os.path.join(folder, str(number))
-        os.mkdir(place)
-        path = put_aside(os.path.join(place, trial.name), trial.data)
-        lines.append(f"load {moment} {key} {kind} {path}\n")
-    script = put_aside(os.path.join(folder, "script"), "".join(lines).encode())
-    said, told = call("script", "--explain", "--db", copy, script)
-    answers = said.splitlines()
+        place = f"trial-{number}"
+        os.mkdir(os.path.join(way.folder, place))
+        put_aside(os.path.join(way.folder, place, trial.name), trial.data)
+        lines.append(f"load {moment} {key} {kind} {place}/{trial.name}")
+    found = way.answered(lines)
+    answers = found.said.splitlines()
     if len(answers) != len(trials):
-        raise Fault(f"the program doesn't answer each line: {told.strip().splitlines()[-1] if told.strip() else 'it said nothing'}")
-    whys = {int(line.split(" ")[1].rstrip(":")): PLACE.sub("", line, count=1) for line in told.splitlines() if line.startswith("line ")}
-    return [(answer, whys.get(number, "")) for number, answer in enumerate(answers, 1)]
+        raise Fault(f"the program doesn't answer each line: {found.last or 'it said nothing'}")
+    return [(answer, PLACE.sub("", found.whys.get(number, ""))) for number, answer in enumerate(answers, 1)]
 
 
 def lines_of(trials, answers):

@@ -39,7 +39,7 @@ class Day:
         self.periods = range(1, clock.count(day) + 1) if period is None else [period]
         self.settled = self.inputs.settled(self.periods)
         self.departures = departures(office, self.inputs, tables and tables.result())
-        self.recounts = {}
+        self.recounts, self.given = {}, {}  # and what runs have of each period that no table has
 
     def let_go(self):
         """Holds no run any more. Else a run and its day hold each other, and neither is freed."""
@@ -80,7 +80,7 @@ class Recount:
 
     def __init__(self, of, kind, sums):
         self.of, self.office, self.day, self.kind, self.sums = of, of.office, of.day, kind, sums
-        self.rows = {}
+        self.rows = dict(of.given.get(kind, ()))
         self.inputs, self.settled, found = self.nearest()
         self.differences = [difference for period in sorted(found) for difference in found[period]]
         self.periods = {period: self.kept_of(period) for period in found}
@@ -89,7 +89,7 @@ class Recount:
     def all_periods(self):
         """The periods of the day and those of the run, which are the same in an office that nobody has changed."""
         kept = self.sums if self.sums is not None else self.office.periods_of(self.day, self.kind) if self.of.period is None else ()
-        return sorted({*self.of.periods, *kept})
+        return sorted({*self.of.periods, *self.rows, *kept})
 
     def kept(self, period):
         """What the run has kept of a period, read in the tables."""

@@ -66,3 +66,7 @@ def takes_key(command):
     """What the program is shown, and when."""
     command.add_argument("--key-file", metavar="PATH", help="a file whose first line is the key; the operator's, if not given")
     command.add_argument("--at", type=int, metavar="SECONDS", help="the moment; the clock's, if not given")
+
+
+def takes_whole(command):
+    command.add_argument("--whole", action="store_true", help="ask over a copy of the whole office, which takes longer")
