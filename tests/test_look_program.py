@@ -19,7 +19,7 @@ from test_both_stores import DATES, after, told
 from test_desk import OPERATOR, text_of
 from test_serving import request
 
-from look import check, clock, office
+from look import check, clock, office, preview
 
 DAY, KEY = "2024-07-01", "op-market001"
 MARKET = HOME / "examples" / "market"
@@ -71,7 +71,8 @@ def place_of(data, header, rows, wanted):
 
 
 class Asking(Looking):
-    """A test with the example market, settled by SF, and with its corrected readings."""
+    """A test with the example market, settled by SF, and with its corrected readings. No copy of a whole office is asked unless that
+    is asked for."""
 
     needs_programs = True
 
@@ -81,9 +82,34 @@ class Asking(Looking):
 
     def setUp(self):
         super().setUp()
-        patched = unittest.mock.patch.dict(os.environ, SETTLE_PROGRAM=SETTLE)
-        patched.start()
-        self.addCleanup(patched.stop)
+        self.begin(unittest.mock.patch.dict(os.environ, SETTLE_PROGRAM=SETTLE))
+        self.begin(unittest.mock.patch.object(check, "found_by", self.found_by(check.found_by)))
+        self.begin(unittest.mock.patch.object(preview, "over_the_copy", self.over_the_copy(preview.over_the_copy)))
+        self.begin(unittest.mock.patch.object(check, "enough_for", self.enough_for(check.enough_for)))
+
+    def begin(self, patch):
+        patch.start()
+        self.addCleanup(patch.stop)
+
+    # What replaces the calls by which a copy of the whole office is asked.
+
+    def found_by(self, real):
+        return lambda ways, *words: real(ways[:1] if ways[0] is not None else ways, *words)
+
+    def enough_for(self, real):
+        def small(*words):
+            made = real(*words)
+            self.assertIsNotNone(made, words)
+            return made
+
+        return small
+
+    def over_the_copy(self, real):
+        def whole_copy(copy, key, moment, asked, was_made):
+            self.assertTrue(asked.whole or was_made, asked)
+            return real(copy, key, moment, asked, was_made)
+
+        return whole_copy
 
     def market(self):
         """The office of the README after SF, with the readings that were corrected."""
@@ -231,7 +257,7 @@ class Check(Asking):
         with unittest.mock.patch.dict(os.environ, SETTLE_PROGRAM=str(self.room / "none")):
             self.assertIn("there is no program to ask", self.refuses("check", "--db", database, "prices", path))
         with unittest.mock.patch.dict(os.environ, SETTLE_PROGRAM=shutil.which("false")):
-            self.assertIn("it doesn't serve a copy", self.refuses("check", "--db", database, "prices", path))
+            self.assertIn("it doesn't serve a copy", self.refuses("check", "--whole", "--db", database, "prices", path))
 
     def test_many_faults(self):
         """The first hundred are shown."""

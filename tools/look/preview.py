@@ -1,17 +1,16 @@
 """`look preview`: what a run would answer and post, by making it over an office in memory, or over a copy of the whole office."""
 
+import functools
 import os
-import sqlite3
 
 from . import clock
 from .asking import call, key_for, moment_of, put_aside
 from .compare import Compared
 from .copying import copied
-from .in_memory import Unlike
 from .office import KINDS, opened_copy
 from .postings import Posted
 from .recount import Day
-from .rehearsal import Rehearsed, is_same, rehearse
+from .rehearsal import Found, Rehearsed, is_same, rehearse
 from .telling import DONE, FAULT, Told
 from .words import takes_date, takes_key, takes_kind, takes_office, takes_whole
 
@@ -39,18 +38,23 @@ def tell(_, asked):
 
 def in_memory(office, copy, key, moment, asked):
     """What is told by an office in memory. None if it isn't like this one, or if something doesn't follow."""
-    try:
-        found = rehearse(office, os.path.join(os.path.dirname(copy), "memory"), key, moment, asked.date, asked.kind)
-        if found.refusal:
-            return Told([*head_of(asked, moment, "be refused"), *refused(found.refusal), "Nothing was changed."], FAULT)
-        before = [*office.runs(asked.date)][-1:]
-        of = Day(Rehearsed(office, asked.date, asked.kind, found), asked.date, before)
-        if not is_same(found, of.settled):
-            return None
-        of.given[asked.kind] = of.settled
-        told = made(of, asked.kind, [*head_of(asked, moment, "answer"), found.answer, ""])
-    except (Unlike, ValueError, sqlite3.Error):
+    folder = os.path.join(os.path.dirname(copy), "memory")
+    find = functools.partial(rehearse, folder, key, moment, asked.date, asked.kind)
+    rehearsed, before = Rehearsed(office, asked.date, asked.kind), [*office.runs(asked.date)][-1:]
+    beside = office.beside(find) if office.is_large() else None
+    of = Day(rehearsed, asked.date, before) if beside else None
+    found = beside.result() if beside else find(office)
+    if found is None:
         return None
+    found = Found._make(found)
+    if found.refusal:
+        return Told([*head_of(asked, moment, "be refused"), *refused(found.refusal), "Nothing was changed."], FAULT)
+    of = of or Day(rehearsed, asked.date, before)
+    rehearsed.found = found
+    if not is_same(found, of.settled):
+        return None
+    of.given[asked.kind] = of.settled
+    told = made(of, asked.kind, [*head_of(asked, moment, "answer"), found.answer, ""])
     return told if told.status == DONE else None
 
 

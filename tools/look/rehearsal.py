@@ -8,6 +8,7 @@ taken back, and the rows that are in force come."""
 import collections
 import itertools
 import re
+import sqlite3
 
 from . import clock
 from .accepted import CONTRACTS, METERS, PARTIES, PRICES, REALLOCATIONS, UNITS
@@ -15,7 +16,7 @@ from .columns import cut
 from .figures import KWH, PRICE, decimal
 from .in_memory import InMemory, Unlike
 from .office import KINDS, Office, Run, account_of, name_of
-from .rows_as_files import Files, in_force
+from .rows_as_files import Files, in_force, in_force_on
 
 OF_DATE = CONTRACTS, REALLOCATIONS, METERS, PRICES
 # By the price of the first period a kWh costs a penny, and by that of the second 1,000 pence.
@@ -25,24 +26,34 @@ MOST_KWH = 10_000_000  # of a contract
 RUN = re.compile(r"run \S+ \S+ periods (\d+) accounts (\d+) residual (-?\d+) postings (\d+)")
 COLUMNS = 10  # of the results of a run, of which the first two are its date and kind
 
-# The program's answer to the run; what it has posted to each account, and a period's accounts and figures. Of a run that is refused
-# there are the lines that say why.
+# The program's answer to the run; what it has posted to each account; and a period's accounts and columns of figures. Of a run that is
+# refused there are the lines that say why.
 Found = collections.namedtuple("Found", "answer refusal postings periods", defaults=({}, {}))
 
 
-def rehearse(office, folder, key, moment, day, kind):
-    """What the program finds of a run that is ordered at a moment with a key."""
-    small, kinds = InMemory(office, folder), [*office.runs(day)]
+def rehearse(folder, key, moment, day, kind, office):
+    """What is found of a run that is ordered at a moment with a key, as a plain tuple. None if it can't be found in memory."""
+    try:
+        small = InMemory(office, folder)
+        nets = take_all(small, office, day)
+        run, balances = f"{clock.date_of(day)} {KINDS[kind]}", f"report {small.key} balances"
+        answered = small.answered([balances, f"run {moment} {key} {run}", balances, f"report {small.key} csv {run}"])
+        return tuple(found_in(answered, nets, 2 * len(office.parties())))
+    except (Unlike, ValueError, sqlite3.Error):
+        return None
+
+
+def take_all(small, office, day):
+    """Takes what a run of a day depends on. What each account pays by the day's latest run, where that isn't nothing."""
     small.take(in_force(office, PARTIES))
+    kinds = [*office.runs(day)]
     nets = nets_of(office, day, kinds[-1]) if kinds else {}
     if kinds:
         stand_in(small, office, day, kinds, nets)
     small.take(in_force(office, UNITS))
     for needed in OF_DATE:
-        small.take(in_force(office, needed, "day = ?", day))
-    run, balances = f"{clock.date_of(day)} {KINDS[kind]}", f"report {small.key} balances"
-    answered = small.answered([balances, f"run {moment} {key} {run}", balances, f"report {small.key} csv {run}"])
-    return found_in(answered, nets, 2 * len(office.parties()))
+        small.take(in_force_on(office, needed, day))
+    return nets
 
 
 def nets_of(office, day, kind):
@@ -53,7 +64,7 @@ def nets_of(office, day, kind):
 
 def stand_in(small, office, day, kinds, nets):
     """Makes the runs of a date, by which each account pays its net."""
-    prices, contracts = in_force(office, PRICES, "day = ?", day).count, [*contracts_of(office, day, nets)]
+    prices, contracts = in_force_on(office, PRICES, day).count, [*contracts_of(office, day, nets)]
     if prices < clock.count(day) or sum(nets.values()) or any(abs(kwh) > MOST_KWH for *_, kwh in contracts):
         raise Unlike
     date, accounts = clock.date_of(day), 2 * sum(party.first <= day <= party.last for party in office.parties().values())
@@ -117,15 +128,15 @@ def is_same(found, settled):
 
 
 class Rehearsed(Office):
-    """An office that has a run more."""
+    """An office that has a run more, once it is found."""
 
-    def __init__(self, office, day, kind, found):
+    def __init__(self, office, day, kind):
         super().__init__(office.connection, office.path, office.copy, office.works)
-        self.rehearsed, self.found = (day, kind), found
+        self.rehearsed, self.found = (day, kind), None
 
     def runs(self, day):
         runs = super().runs(day)
-        if day == self.rehearsed[0]:
+        if self.found and day == self.rehearsed[0]:
             runs[self.rehearsed[1]] = Run._make(map(int, RUN.fullmatch(self.found.answer).groups()))
         return runs
 

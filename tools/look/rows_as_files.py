@@ -5,6 +5,7 @@ SQLite writes the lines, which takes a third of the time that Python takes."""
 
 import collections
 
+from . import clock
 from .accepted import CONTRACTS, METERS, PARTIES, PRICES, REALLOCATIONS, UNITS
 from .figures import KWH, PERCENT, PRICE, TLM
 
@@ -18,7 +19,7 @@ HEADERS = {
     REALLOCATIONS: "unit,account,date,period,percent,fixed_mwh",
 }
 
-# A column as it is written: its form for SQLite's printf, and the values that this takes.
+# A column as it is written: its form for SQLite's printf, and the values that this takes, if any.
 Column = collections.namedtuple("Column", "form values")
 # Files of a kind, each a list of lines, and how many rows the table has for them.
 Files = collections.namedtuple("Files", "kind parts count")
@@ -42,7 +43,7 @@ def decimal(column, digits):
     return Column(f"%s%d.%0{digits}d", f"CASE WHEN {column} < 0 THEN '-' ELSE '' END, abs({column}) / {unit}, abs({column}) % {unit}")
 
 
-PERIOD = Column("%d", "period")
+DATE, PERIOD = date("day"), Column("%d", "period")
 TERM = date("day_from"), date("day_to")
 FIRST_DAY = "max(one.day_from, other.day_from)"  # on which both parties of a reference take part, if there is one
 SIDE, MARK = Column("%s", "substr('PC', side + 1, 1)"), Column("%s", "CASE interconnector WHEN 0 THEN 'no' ELSE 'yes' END")
@@ -51,12 +52,12 @@ COUNTERPARTIES = account("seller", "seller_side"), account("buyer", "buyer_side"
 TABLES = {
     PARTIES: ("parties", (text("party"), *TERM, text("access_key"))),
     UNITS: ("units", (text("unit"), text("party"), SIDE, MARK, *TERM)),
-    METERS: ("meters", (text("unit"), date("day"), PERIOD, decimal("metered", KWH), decimal("tlm", TLM), decimal("balancing", KWH))),
-    PRICES: ("prices", (date("day"), PERIOD, decimal("price", PRICE))),
-    CONTRACTS: ("contracts JOIN refs USING (reference)", (text("reference"), *COUNTERPARTIES, date("day"), PERIOD, decimal("kwh", KWH))),
+    METERS: ("meters", (text("unit"), DATE, PERIOD, decimal("metered", KWH), decimal("tlm", TLM), decimal("balancing", KWH))),
+    PRICES: ("prices", (DATE, PERIOD, decimal("price", PRICE))),
+    CONTRACTS: ("contracts JOIN refs USING (reference)", (text("reference"), *COUNTERPARTIES, DATE, PERIOD, decimal("kwh", KWH))),
     REALLOCATIONS: (
         "reallocations",
-        (text("unit"), account("party", "side"), date("day"), PERIOD, decimal("percent", PERCENT), decimal("fixed", KWH)),
+        (text("unit"), account("party", "side"), DATE, PERIOD, decimal("percent", PERCENT), decimal("fixed", KWH)),
     ),
 }
 REFERENCES = (
@@ -70,6 +71,13 @@ def in_force(office, kind, where="", *values):
     return files_of(office, kind, *TABLES[kind], where, values)
 
 
+def in_force_on(office, kind, day):
+    """The rows of a kind that are in force for a day. Its date is written out once."""
+    table, columns = TABLES[kind]
+    dated = [Column(clock.date_of(day), "") if column is DATE else column for column in columns]
+    return files_of(office, kind, table, dated, "day = ?", (day,))
+
+
 def references(office, where="", *values):
     """A row of a contract for each reference. If it comes late, it fixes the seller and the buyer, and nothing else."""
     return files_of(office, CONTRACTS, *REFERENCES, where, values)
@@ -77,7 +85,7 @@ def references(office, where="", *values):
 
 def files_of(office, kind, table, columns, where, values):
     """The rows of a table as files of a kind."""
-    forms, written = ",".join(column.form for column in columns), ", ".join(column.values for column in columns)
+    forms, written = ",".join(column.form for column in columns), ", ".join(column.values for column in columns if column.values)
     asked = f"SELECT count(*), group_concat(printf('{forms}', {written}), char(10)) FROM {table}{where and f' WHERE {where}'}"
     ((count, lines),) = office.rows(asked, *values)
     return Files(kind, parts_of(lines.split("\n") if count else []), count)
