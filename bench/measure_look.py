@@ -5,8 +5,8 @@ usage: measure_look.py [PROGRAM] [--rounds 5] [--only WORD,..] [--processor]
 PROGRAM makes the office, and is asked by `check` and `preview`; by default it is crates/hh_settle/out/hh_settle at the top of this
 repository. It loads the day of gen_day.py, makes SF, loads the prices again with the first raised by 10 pounds, and makes R1. In each
 round each command of `look` is called once. Beside it `cp` copies the office's two files, and one `sqlite3` writes all rows that the
-command reads. What is written goes to /dev/null. `check` and `preview` wait for the program, which reads the whole file: beside them
-`sqlite3` writes all rows of all tables, and the program alone is called with the same words over a copy. --only names the commands
+command reads, also those of the file that `check` reads. What is written goes to /dev/null. `check` and `preview` ask the program over an office in memory: beside them the program alone
+is called with the same words over a copy of the office's file. --only names the commands
 that are measured. With --processor the milliseconds are those of the processor, which other work on the machine changes less: of
 `look` those of the process for which a user waits, and in brackets those of all its processes. It needs Python 3, `sqlite3` and
 Linux."""
@@ -15,13 +15,14 @@ import collections
 import os
 import pathlib
 import resource
+import shutil
 import statistics
 import subprocess
 import sys
 import tempfile
 import time
 
-from measure_day import FIRST, KEY, lines_of_day, script_of
+from measure_day import FIRST, KEY, MOMENT, lines_of_day, script_of
 from measure_run import LATER, dearer_prices, run_line
 from measuring import BENCH
 
@@ -29,7 +30,6 @@ LOOK = [sys.executable, "-IS", str(BENCH.parent / "look")]
 ACCOUNT, PERIOD = "PARTY0007-P", "23"
 DATE = str(FIRST)
 OF_DAY = ("meters", "prices", "contracts", "reallocations")
-TABLES = (*OF_DAY, "files", "parties", "units", "refs", "runs", "results", "credits", "postings", "positions", "touched", "marks", "settings")
 MOST = 3.0
 
 
@@ -57,8 +57,11 @@ COMMANDS = {
     "postings": ([DATE, "R1"], [*read_by([0, 1]), *rows("postings")]),
     "page": ([DATE, "R1"], [*read_by([0, 1]), *rows("postings")]),
     "snapshot": (["OUT"], ["PRAGMA integrity_check;"]),
-    "check": ([f"--at={LATER}", "prices", "AGAIN"], rows(*TABLES)),
-    "preview": ([f"--at={LATER}", DATE, "R2"], rows(*TABLES)),
+    "check, prices sent again": ([f"--at={LATER}", "prices", "AGAIN"], rows("files", where=" WHERE kind = 'prices'")),
+    "check, new readings": ([f"--at={LATER}", "meters", "NEW"], rows("parties", "units")),
+    "check, new contracts": ([f"--at={MOMENT}", "contracts", "NEW"], rows("parties", "refs")),
+    "check, new reallocations": ([f"--at={MOMENT}", "reallocations", "NEW"], rows("parties", "units", "reallocations")),
+    "preview": ([f"--at={LATER}", DATE, "R2"], read_by([1])),
 }
 
 
@@ -119,9 +122,17 @@ def gone(path):
 
 def of_look(database, folder, name):
     """The milliseconds of a command of `look`."""
+    return taken([*LOOK, name.partition(",")[0], "--db", str(database), *words_of(folder, name)])
+
+
+def words_of(folder, name):
+    """The words of a command, with paths. A new file has the rows of one of the day under another name."""
+    words = COMMANDS[name][0]
     places = {"OUT": str(gone(folder / "out.db")), "AGAIN": str(folder / f"again-prices-{DATE}-1.csv")}
-    words = [places.get(word, word) for word in COMMANDS[name][0]]
-    return taken([*LOOK, name.partition(",")[0], "--db", str(database), *words])
+    if "NEW" in words:
+        file = folder / DATE / f"{words[1]}-{DATE}-1.csv"
+        places["NEW"] = str(shutil.copy(file, folder / f"new-{file.name}"))
+    return [places.get(word, word) for word in words]
 
 
 def of_both(database, folder, name):
@@ -129,15 +140,16 @@ def of_both(database, folder, name):
     copy = gone(folder / "copy.db")
     files = [path for path in (database, database.with_name(f"{database.name}-wal")) if path.exists()]
     copies = [["cp", str(path), str(copy) + path.name.removeprefix(database.name)] for path in files]
-    return taken(*copies, ["sqlite3", "-readonly", str(copy), " ".join(COMMANDS[name][1])])
+    of_file = [["sqlite3", "-csv", ":memory:", f".import {words_of(folder, name)[-1]} rows", "SELECT * FROM rows;"]] * name.startswith("check")
+    return taken(*copies, ["sqlite3", "-readonly", str(copy), " ".join(COMMANDS[name][1])], *of_file)
 
 
 def of_program(program, database, folder, name):
-    """Those of the program with the words of `preview`, or with a file like that of `check`, over a copy."""
+    """Those of the program with the same words over a copy."""
     copy = gone(folder / "copy.db")
     subprocess.run(["cp", str(database), str(copy)], check=True)
-    words = ["run", DATE, "R2"] if name == "preview" else ["load", "prices", str(folder / DATE / f"prices-{DATE}-1.csv")]
-    return taken([program, words[0], "--db", str(copy), "--key", KEY, f"--at={LATER}", *words[1:]])
+    command = "run" if name == "preview" else "load"
+    return taken([program, command, "--db", str(copy), "--key", KEY, *words_of(folder, name)])
 
 
 def main():
@@ -152,7 +164,7 @@ def main():
             for name in names:
                 times[name][0].append(of_look(database, folder, name))
                 times[name][1].append(of_both(database, folder, name))
-                if name in ("check", "preview"):
+                if name.startswith(("check", "preview")):
                     times[name][2].append(of_program(words.program, database, folder, name))
     print("| Command | `look`, ms | `cp` and `sqlite3`, ms | Ratio | The program alone, ms |\n|---|---:|---:|---:|---:|")
     high = []

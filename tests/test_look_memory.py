@@ -15,7 +15,7 @@ from test_both_stores import told
 from test_desk import OPERATOR, text_of
 from test_look_program import Asking
 
-from look import asking, check, clock, office, preview, rows_as_files
+from look import asking, check, clock, enough, office, preview, rows_as_files
 from look.copying import copied
 
 DAY = "2024-07-01"
@@ -128,6 +128,14 @@ class Both(Asking):
         return found[1]
 
 
+def quoted(row):
+    return ",".join(f'"{field}"' for field in row.split(","))
+
+
+def half_quoted(row):
+    return ",".join(f'"{field[:2]}"{field[2:]}' for field in row.split(","))
+
+
 class Files(Both):
     """Files that come to the example market and to its week."""
 
@@ -141,10 +149,18 @@ class Files(Both):
             self.assertIn(f"Without them the file would be answered applied={len(rows) - len(wanted)} late=0", out)
             seen |= {number for number, _ in rows}
         self.assertEqual(seen, {None, 13, 14, 30, 31, *range(33, 41)})
-        rows = text_of("contracts", [f'"{row[:3]}"{row[3:]}' if row.startswith("NEW") else f'"{row}'.replace(",", '",', 1) for _, row in ROWS["contracts"]])
-        self.assertEqual([number for _, number in self.faults(database, "contracts", rows)[0]], [30, 33, 34, 35, 36, 36])
-        self.compare(database, self.asked[:-1])
-        self.compare(database, self.asked[-1:])
+        self.compare(database)
+
+    def test_rows_of_large_tables(self):
+        """Of which those are taken that the file may be about; also where its fields have quotes, within or around them."""
+        database = self.kept("market")
+        with unittest.mock.patch.object(enough, "FEW", 0):
+            for kind in "contracts", "reallocations":
+                rows = [row for _, row in ROWS[kind]]
+                for change in str, quoted, half_quoted:
+                    found, out = self.faults(database, kind, text_of(kind, map(change, rows)))
+                    self.assertEqual(found, [(at, number) for at, (number, _) in enumerate(ROWS[kind], 1) if number], out)
+        self.compare(database, part=BEFORE)
 
     def test_as_many_as_there_may_be(self):
         """With 400 parties and 2,000 units no other is registered, and those that are may be so again."""
@@ -277,7 +293,7 @@ class Runs(Both):
         self.assertEqual(settle("script", "--strict", "--db", str(database), str(script))[0], 0)
 
     def test_a_key_that_is_not_the_operators(self):
-        out = self.same("preview", "--db", self.kept("market"), "--key-file", self.file("citysupkey1\n"), DAY, "R2")
+        out = self.same("preview", "--db", self.kept("market"), "--at", LATE, "--key-file", self.file("citysupkey1\n"), DAY, "R2")
         self.assertIn("refused 60 Forbidden", out)
 
     def test_files_in_parts(self):
@@ -367,7 +383,7 @@ class Keys(Both):
                     out = look(words[0], "--db", database, *whole, "--at", EARLY, *words[1:])
                     self.assertNotIn(MARKET_KEY, "".join(map(str, out)))
         lines = log.read_text().splitlines()
-        self.assertEqual([line.split(" ")[0] for line in lines], ["script", "script", "serve", "script", "script", "run"])
+        self.assertEqual([line.split(" ")[0] for line in lines], [*["script"] * 4, "serve", "script", "script", "run"])
         self.assertEqual([line for line in lines if MARKET_KEY in line], [])
         self.assertEqual(list(room.iterdir()), [])
 

@@ -257,7 +257,7 @@ class Check(Asking):
         with unittest.mock.patch.dict(os.environ, SETTLE_PROGRAM=str(self.room / "none")):
             self.assertIn("there is no program to ask", self.refuses("check", "--db", database, "prices", path))
         with unittest.mock.patch.dict(os.environ, SETTLE_PROGRAM=shutil.which("false")):
-            self.assertIn("it doesn't serve a copy", self.refuses("check", "--whole", "--db", database, "prices", path))
+            self.assertIn("it doesn't answer over a copy: it said nothing", self.refuses("check", "--whole", "--db", database, "prices", path))
 
     def test_many_faults(self):
         """The first hundred are shown."""

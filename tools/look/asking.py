@@ -3,8 +3,6 @@ is."""
 
 import collections
 import contextlib
-import http.client
-import json
 import os
 import re
 import subprocess
@@ -20,8 +18,8 @@ SCRIPT = "script"  # the name of its file
 KEY = re.compile(rb"op-[A-Za-z0-9]{8,61}|[A-Za-z0-9]{8,64}")
 KEY_BYTES = 4_096  # of a file of a key are read
 
-# What a script writes, the explanations of its lines by their numbers, and the last line on standard error.
-Answered = collections.namedtuple("Answered", "said whys last")
+# What a script writes, the explanations of its lines by their numbers, and the first line on standard error.
+Answered = collections.namedtuple("Answered", "said whys first")
 
 
 def program():
@@ -84,14 +82,17 @@ def port_of(line):
 
 def sent(port, key, kind, name, body):
     """The reply to a file that is sent to a service."""
-    connection = http.client.HTTPConnection("127.0.0.1", port, timeout=PATIENCE)
+    import json  # which only files with faults need
+    import socket
+
+    head = f"POST /files/{kind}/{name} HTTP/1.0\r\nx-office-key: {key}\r\nContent-Length: {len(body)}\r\n\r\n"
     try:
-        connection.request("POST", f"/files/{kind}/{name}", body, {"x-office-key": key})
-        return json.loads(connection.getresponse().read())
-    except (OSError, http.client.HTTPException, ValueError) as error:
-        raise Fault(f"{program()}: a service on a copy gave no reply: {error}") from None
-    finally:
-        connection.close()
+        with socket.create_connection(("127.0.0.1", port), PATIENCE) as connection:
+            connection.sendall(head.encode() + body)
+            with connection.makefile("rb") as reply:
+                return json.loads(reply.read().partition(b"\r\n\r\n")[2])
+    except (OSError, ValueError) as error:
+        raise Fault(f"{program()}: a service gave no reply: {error}") from None
 
 
 class WholeCopy:
@@ -124,6 +125,6 @@ def put_script(folder, lines):
 
 
 def explained(told, before=0):
-    """The explanation of each line of a script behind the first ones, by its number and without it; and the last line."""
+    """The explanation of each line of a script behind the first ones, by its number and without it; and the first line of all."""
     found = re.findall(r"(?m)^line (\d+): (.*)", told)
-    return {int(number) - before: why for number, why in found}, told.strip().rpartition("\n")[2]
+    return {int(number) - before: why for number, why in found}, told.strip().partition("\n")[0]

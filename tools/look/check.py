@@ -6,13 +6,13 @@ import contextlib
 import os
 import re
 
-from .asking import WholeCopy, key_for, moment_of, put_aside, sent
+from . import clock
+from .asking import WholeCopy, key_for, moment_of, program, put_aside, sent
 from .copying import copied
 from .enough import NEEDED, enough_for, held_under
 from .figures import counted
 from .in_memory import Unlike
 from .office import opened_copy
-from .preview import shown
 from .telling import FAULT, Fault, Told
 from .words import takes_key, takes_office, takes_whole
 
@@ -54,7 +54,7 @@ def tell(_, asked):
             names = name, free_name(office)
             small = None if asked.whole else enough_for(office, os.path.dirname(copy), asked.rows, name, data)
         trials, answers, is_whole = found_by((small, WholeCopy(copy)), key, moment, asked.rows, names, data)
-    head = f"{asked.file}, {asked.rows} that come at {shown(moment)}:"
+    head = f"{asked.file}, {asked.rows} that come at {clock.shown(moment)}:"
     if len(trials) == 1:
         ((answer, why),) = answers
         again = ["It was accepted before. Sent again, it changes nothing."] * (held is not None and held.body == data)
@@ -93,9 +93,13 @@ def free_name(office):
 
 def found_by(ways, key, moment, kind, names, data):
     """The trials, what each is answered, and whether all faults were found; by the first of the ways to ask that there is."""
+    whole = [Trial(None, names[0], data)]
     for way in ways:
         with contextlib.suppress(Unlike):
             if way is not None:
+                answers = explained(way, key, moment, kind, whole)
+                if answers[0][0].startswith("applied="):
+                    return whole, answers, True
                 trials, is_whole = faults(way, key, moment, kind, names, data)
                 return trials, explained(way, key, moment, kind, trials), is_whole
     raise Unlike  # which asking over the whole copy never does
@@ -136,13 +140,13 @@ def explained(way, key, moment, kind, trials):
     lines = []
     for number, trial in enumerate(trials):
         place = f"trial-{number}"
-        os.mkdir(os.path.join(way.folder, place))
+        os.makedirs(os.path.join(way.folder, place), 0o700, exist_ok=True)
         put_aside(os.path.join(way.folder, place, trial.name), trial.data)
         lines.append(f"load {moment} {key} {kind} {place}/{trial.name}")
     found = way.answered(lines)
     answers = found.said.splitlines()
     if len(answers) != len(trials):
-        raise Fault(f"the program doesn't answer each line: {found.last or 'it said nothing'}")
+        raise Fault(f"{program()}: it doesn't answer over a copy: {found.first or 'it said nothing'}")
     return [(answer, PLACE.sub("", found.whys.get(number, ""))) for number, answer in enumerate(answers, 1)]
 
 

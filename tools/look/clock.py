@@ -80,3 +80,10 @@ def in_utc(moment):
     """A moment as a text that ends with Z."""
     seconds = moment % DAY
     return f"{date_of(moment // DAY)}T{seconds // HOUR:02}:{seconds // MINUTE % 60:02}:{seconds % 60:02}Z"
+
+
+def shown(moment):
+    """A moment, with its date and time if it is in one."""
+    if midnight(FIRST) <= moment < midnight(LAST + 1):
+        return f"{in_utc(moment)} ({moment})"
+    return str(moment)

@@ -4,7 +4,6 @@ the file may name; of reallocations those of its dates, since their percentages 
 import collections
 import contextlib
 import io
-import json
 import os
 import re
 import sqlite3
@@ -24,6 +23,8 @@ NEEDED = {
     REALLOCATIONS: (PARTIES, UNITS),
 }
 
+DATE = re.compile(rb"[0-9]{4}-[0-9]{2}-[0-9]{2}")
+FEW = 2_000  # rows of a table, which are taken whatever the file is about
 # A file that was accepted, and how it was answered.
 Accepted = collections.namedtuple("Accepted", "body applied late")
 
@@ -45,9 +46,9 @@ def enough_for(office, folder, kind, name, data):
         for needed in NEEDED[kind]:
             small.take(in_force(office, needed))
         if kind == CONTRACTS:
-            small.take(references(office, "reference IN (SELECT value FROM json_each(?))", json.dumps(fields_of(data))), is_late=True)
+            small.take(references(office, *those_in(office, "refs", "reference", data, fields_of)), is_late=True)
         if kind == REALLOCATIONS:
-            small.take(in_force(office, kind, "day IN (SELECT value FROM json_each(?))", json.dumps(days_of(data))))
+            small.take(in_force(office, kind, *those_in(office, kind, "day", data, days_of)))
         if held:
             small.take_file(kind, name, other_than(data, kind), (0, 0))
     except (Unlike, ValueError, sqlite3.Error):
@@ -69,6 +70,15 @@ def take_accepted(small, office, kind, name, held):
     small.take_file(kind, name, held.body, (held.applied, held.late), moment)
 
 
+def those_in(office, table, column, data, find):
+    """The condition for the rows of a table that the file may be about. All rows of a small table are so."""
+    if office.one(f"SELECT count(*) FROM {table}") <= FEW:
+        return ("",)
+    import json  # which few offices need
+
+    return f"{column} IN (SELECT value FROM json_each(?))", json.dumps(find(data))
+
+
 def fields_of(data):
     """All texts that may be a field of the file."""
     if b'"' not in data:
@@ -82,11 +92,12 @@ def fields_of(data):
 
 
 def days_of(data):
-    """The days of all dates that may be in the file."""
+    """The days of all dates that may be a field of the file."""
+    texts = fields_of(data) if b'"' in data else [text.decode() for text in {*DATE.findall(data)}]
     days = []
-    for field in fields_of(data):
+    for text in texts:
         with contextlib.suppress(ValueError):
-            days.append(clock.day_of(field))
+            days.append(clock.day_of(text))
     return days
 
 

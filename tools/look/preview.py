@@ -79,20 +79,13 @@ def run(copy, key, moment, asked):
 
 
 def head_of(asked, moment, would):
-    return [f"{KINDS[asked.kind]} of {clock.date_of(asked.date)}, ordered at {shown(moment)}, would {would}:"]
+    return [f"{KINDS[asked.kind]} of {clock.date_of(asked.date)}, ordered at {clock.shown(moment)}, would {would}:"]
 
 
 def refused(lines):
     """The lines of a refusal, and where to look if something is missing."""
     is_missing = lines[0].startswith(("refused 53 ", "refused 54 "))
     return [*lines, *["`look missing` names all that the date lacks."] * is_missing]
-
-
-def shown(moment):
-    """A moment, with its date and time if it is in one."""
-    if clock.midnight(clock.FIRST) <= moment < clock.midnight(clock.LAST + 1):
-        return f"{clock.in_utc(moment)} ({moment})"
-    return str(moment)
 
 
 def made(of, kind, head):
