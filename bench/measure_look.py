@@ -4,12 +4,12 @@
 usage: measure_look.py [PROGRAM] [--rounds 5] [--only WORD,..] [--processor]
 PROGRAM makes the office, and is asked by `check` and `preview`; by default it is crates/hh_settle/out/hh_settle at the top of this
 repository. It loads the day of gen_day.py, makes SF, loads the prices again with the first raised by 10 pounds, and makes R1. In each
-round each command of `look` is called once. Beside it `cp` copies the office's two files, and one `sqlite3` writes all rows that the
-command reads, also those of the file that `check` reads. What is written goes to /dev/null. `check` and `preview` ask the program over an office in memory: beside them the program alone
-is called with the same words over a copy of the office's file. --only names the commands
-that are measured. With --processor the milliseconds are those of the processor, which other work on the machine changes less: of
-`look` those of the process for which a user waits, and in brackets those of all its processes. It needs Python 3, `sqlite3` and
-Linux."""
+round each command of `look` is called once. Beside it `cp` copies the office's two files, and `sqlite3` writes all rows that the
+command reads: those of the copy, and for `check` those of the file. What is written goes to /dev/null. `check` is asked about the prices
+that are there, and about files of the day under new names. It and `preview` ask the program over an office in memory. Beside them the
+program is called with the same words over a copy of the office's file. --only names the commands that are measured. With --processor the
+milliseconds are those of the processor, which other work on the machine changes less: of `look` those of the process for which a user
+waits, and in brackets those of all its processes. It needs Python 3, `sqlite3` and Linux."""
 import argparse
 import collections
 import os
@@ -140,8 +140,10 @@ def of_both(database, folder, name):
     copy = gone(folder / "copy.db")
     files = [path for path in (database, database.with_name(f"{database.name}-wal")) if path.exists()]
     copies = [["cp", str(path), str(copy) + path.name.removeprefix(database.name)] for path in files]
-    of_file = [["sqlite3", "-csv", ":memory:", f".import {words_of(folder, name)[-1]} rows", "SELECT * FROM rows;"]] * name.startswith("check")
-    return taken(*copies, ["sqlite3", "-readonly", str(copy), " ".join(COMMANDS[name][1])], *of_file)
+    reads = [["sqlite3", "-readonly", str(copy), " ".join(COMMANDS[name][1])]]
+    if name.startswith("check"):
+        reads.append(["sqlite3", "-csv", ":memory:", f".import {words_of(folder, name)[-1]} rows", "SELECT * FROM rows;"])
+    return taken(*copies, *reads)
 
 
 def of_program(program, database, folder, name):

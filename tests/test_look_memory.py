@@ -330,11 +330,11 @@ class WhereItIsUnlike(Both):
     """An office with rows that no office writes isn't taken into memory. Its copy is asked whole."""
 
     CHANGES = {
-        "nets that don't sum to zero": "UPDATE results SET share = share + 1 WHERE kind = 1 AND period = 3 AND party = 'CITYSUP' AND side = 1",
+        "nets that don't sum to zero": "UPDATE results SET share = share + 1 WHERE kind = 1 AND period = 3 AND party = 'TRADECO'",
         "a price that is gone": "DELETE FROM prices WHERE period = 9",
         "a figure that doesn't follow": "UPDATE meters SET metered = metered + 1 WHERE period = 9 AND unit = 'E_MOOR-1'",
         "a contract of nobody": "UPDATE refs SET seller = 'NOBODY' WHERE reference = 'SEA-CITY'",
-        "a net too large": "UPDATE results SET share = share + (1 - 2 * side) * 100000000000 WHERE kind = 1 AND period = 3 AND party = 'CITYSUP'",
+        "a net too large": "UPDATE results SET share = share + (1 - 2 * side) * 100000000000 WHERE kind = 1 AND period = 3 AND party = 'SEALINK'",
     }
 
     def over_the_copy(self, real):

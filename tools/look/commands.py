@@ -22,8 +22,8 @@ COMMANDS = {
     "statement": "an account's figures of a date, or of a range of dates",
     "compare": "what changed from one run of a date to another, and why",
     "postings": "what a run posted to whom",
-    "check": "all rows of a file that would be refused, by asking the program over a copy",
-    "preview": "what a run would answer and post, by asking the program over a copy",
+    "check": "all rows of a file that would be refused, by asking the program",
+    "preview": "what a run would answer and post, by asking the program",
     "snapshot": "a copy of the office, also while `settle serve` runs",
     "page": "a run, or the runs of several dates, as a page to read and to print, in HTML",
 }

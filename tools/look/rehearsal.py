@@ -92,7 +92,7 @@ def rows_as(kind, lines):
 
 
 def found_in(answered, nets, accounts):
-    """What is told by both balances, the run's answer between them, and the results."""
+    """What is told by both balances of so many accounts, the run's answer between them, and the results behind."""
     lines = answered.said.split("\n", 2 * accounts + 3)
     if len(lines) < 2 * accounts + 4:
         raise Unlike
@@ -100,8 +100,9 @@ def found_in(answered, nets, accounts):
     if {account: pence for account, pence in before.items() if pence} != nets:
         raise Unlike
     if not RUN.fullmatch(answer):
-        return Found(None, [answer, *answered.whys.values()][:2])
-    return Found(answer, None, {account: pence - before[account] for account, pence in after.items() if pence != before[account]}, periods_in(lines[-1]))
+        return Found(None, [answer, *filter(None, [answered.whys.get(2)])])  # of the second line
+    postings = {account: pence - before[account] for account, pence in after.items() if pence != before[account]}
+    return Found(answer, None, postings, periods_in(lines[-1]))
 
 
 def balances_in(lines):
@@ -111,13 +112,10 @@ def balances_in(lines):
 
 def periods_in(text):
     """The accounts and the columns of figures of each period in the results of a run."""
-    fields = text.replace(".", "").replace("\n", ",").split(",")[COLUMNS:-1]  # the decimals all have as many digits
+    fields = text.replace(".", "").replace("\n", ",").split(",")[COLUMNS:-1]  # each decimal has as many digits as its column's unit
     names, periods, *figures = (fields[at::COLUMNS] for at in range(2, COLUMNS))
-    return {period: (accounts, columns) for period, accounts, *columns in cut(map(int, periods), [*map(account_of, names)], *(map_ints(figures)))}
-
-
-def map_ints(columns):
-    return [[*map(int, column)] for column in columns]
+    parts = cut(map(int, periods), [*map(account_of, names)], *([*map(int, column)] for column in figures))
+    return {period: (accounts, columns) for period, accounts, *columns in parts}
 
 
 def is_same(found, settled):
