@@ -203,7 +203,7 @@ class Files(Both):
             made.execute("INSERT INTO files VALUES ('contracts', 'look-0.csv', ?, 0, 0)", (text_of("contracts", []),))
         rows = text_of("contracts", [row for number, row in ROWS["contracts"] if number])
         wanted = self.faults(database, "contracts", rows)[0]
-        for name in "before-0.csv", "earlier-1.csv", "script", "look-1.csv":
+        for name in "before-1.csv", "earlier-1.csv", "script", "look-1.csv":
             self.assertEqual(self.faults(database, "contracts", rows, name)[0], wanted)
         for name in "contracts.csv", "look-0.csv":
             self.assertEqual(self.faults(database, "contracts", rows, name)[0], [(0, 20), *wanted])
@@ -353,6 +353,17 @@ class WhereItIsUnlike(Both):
                 words = "preview", "--db", database, "--at", LATE, DAY, "R2"
                 self.assertEqual(look(*words), look("preview", "--whole", *words[1:]))
                 self.assertEqual(self.over.call_count, 2)
+                self.over.reset_mock()
+
+    def test_a_program_that_says_something_else(self):
+        """Of a figure of the run, of what it has posted, and of what was posted before."""
+        database = self.kept("market")
+        for change in r"s/^\(2024-07-01,R2,CITYSUP-C,7,.*\)$/\19/", r"s/postings 0$/postings 1/", r"s/^SEALINK-P,/&1/":
+            program = self.file(f"#!/bin/sh\nif [ $1 = script ]; then {SETTLE} \"$@\" | sed '{change}'; else exec {SETTLE} \"$@\"; fi\n")
+            program.chmod(0o755)
+            with unittest.mock.patch.dict(os.environ, SETTLE_PROGRAM=str(program)), self.subTest(change):
+                status, out, _ = look("preview", "--db", database, "--at", LATE, DAY, "R2")
+                self.assertEqual((status, self.over.call_count), (0, 1), out)
                 self.over.reset_mock()
 
     def test_files(self):
