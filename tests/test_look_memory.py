@@ -23,7 +23,7 @@ EARLY, LATE = 1_719_568_800, 1_735_689_600  # before 2024-07-01, and when it and
 MARKET = HOME / "examples" / "market"
 REQUESTS, PART = (1_200, 40) if IS_LONG else (160, 80)
 LOADS, ACCEPTED = (20, 20) if IS_LONG else (12, 2)  # that are asked for behind each part, and of those the accepted ones
-KEPT = tuple(OFFICES) if IS_LONG else ("new", "market", "without-positions", "killed")
+KEPT = tuple(OFFICES) if IS_LONG else ("new", "without-positions", "killed")
 # Rows of each kind that come to the example market, each with the refusal that it gets.
 ROWS = {
     "parties": [
@@ -256,9 +256,11 @@ class Runs(Both):
         self.assertEqual(seen, {"run", "53"})
 
     def test_the_week(self):
-        """A date of 50 periods and one that has two runs. A process of its own rehearses a run of a large office."""
-        database, large = self.kept("week"), unittest.mock.patch.object(office, "LARGE", 0)
-        self.begin(large)
+        """A date of 50 periods and one that has two runs. A process of its own rehearses a run of a large office, in which more rows are
+        in force than a file may have."""
+        database = self.kept("week")
+        self.begin(unittest.mock.patch.object(office, "LARGE", 0))
+        self.begin(unittest.mock.patch.object(rows_as_files, "MOST_ROWS", 7))
         for date, kind in ("2024-10-24", 2), ("2024-10-27", 1):
             self.assertEqual(self.preview(database, clock.day_of(date), kind), "run")
 
@@ -295,11 +297,6 @@ class Runs(Both):
     def test_a_key_that_is_not_the_operators(self):
         out = self.same("preview", "--db", self.kept("market"), "--at", LATE, "--key-file", self.file("citysupkey1\n"), DAY, "R2")
         self.assertIn("refused 60 Forbidden", out)
-
-    def test_files_in_parts(self):
-        """Rows in force that are more than a file may have."""
-        with unittest.mock.patch.object(rows_as_files, "MOST_ROWS", 7):
-            self.assertEqual(self.preview(self.kept("market"), clock.day_of(DAY), 2), "run")
 
 
 class AtRandom(Both):
@@ -345,7 +342,7 @@ class WhereItIsUnlike(Both):
         return real
 
     def test_runs(self):
-        for what, change in list(self.CHANGES.items())[: None if IS_LONG else 3]:
+        for what, change in list(self.CHANGES.items())[: None if IS_LONG else 2]:
             database = unpack("market", self.room / what)
             with changing(database) as made:
                 made.execute(change)

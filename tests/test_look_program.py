@@ -439,7 +439,7 @@ class AtRandom(Asking):
         seen = set()
         for begin in range(0, REQUESTS, 100):
             told(self.room / "script", requests[begin : begin + 100], "--db", database)
-            for date in DATES:
+            for date in DATES if IS_LONG else DATES[begin // 100 % 2 :: 2]:
                 seen.add(self.compare(database, date))
         self.assertGreaterEqual(seen, {"53", "54", "run"})
         self.follows(database)
