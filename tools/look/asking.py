@@ -8,8 +8,6 @@ import re
 import subprocess
 import time
 
-from sources import PROGRAM
-
 from .copying import copy_office
 from .telling import Fault
 
@@ -22,9 +20,15 @@ KEY_BYTES = 4_096  # of a file of a key are read
 Answered = collections.namedtuple("Answered", "said whys first")
 
 
+def built_program():
+    from sources import PROGRAM  # which is slow to come, and of no use where another program is named
+
+    return PROGRAM
+
+
 def program():
     """The path of the program: that which SETTLE_PROGRAM names, or the one that `./settle` has built."""
-    path = os.environ.get("SETTLE_PROGRAM") or PROGRAM
+    path = os.environ.get("SETTLE_PROGRAM") or built_program()
     if not os.access(path, os.X_OK):
         raise Fault(f"{path}: there is no program to ask; `./settle --build` makes it, and SETTLE_PROGRAM may name another")
     return os.path.abspath(path)
