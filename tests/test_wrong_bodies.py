@@ -26,6 +26,7 @@ OFFERED = {
     "check_row", "apply_row", "run_all", "day_of", "day_number", "date_at", "in_pieces", "run_in_new_database",
     "answer", "answer_over",
     "registered_lead_on", "last_begun", "former_lead", "widened", "put_lead", "last_up_to", "last_before", "begun_by",
+    "step_to_two", "add_leads", "commit_two", "write_two", "leads_of_units", "lead_of",
 }
 # What the language calls without naming it.
 UNNAMED = {"main", "fmt", "cmp", "partial_cmp", "eq", "from", "next", "clone", "drop", "default"}
@@ -164,7 +165,7 @@ fn hh_rows::keys::right: proved
         self.assertLessEqual({("keys", "open"), ("keys", "bare"), ("Key", "bare")}, told)
 
     def test_a_constant_belongs_to_the_function_that_gives_it(self):
-        """It is refused where a law that its `impl` gives is not proved, and not where that only waits for another proof."""
+        """It is refused where the fact about it, by which that function is proved, computes to something else."""
         module, tables = script(), "tables::contracts"
         folder = HOME / "crates" / "hh_sqlrows"
         text = (folder / "src" / "tables" / "contracts.rt").read_text(encoding="utf-8")
@@ -174,9 +175,11 @@ fn hh_rows::keys::right: proved
         self.assertIsNone(module.giver_of(text, text.index("const CREATION")))
         self.assertIsNone(module.giver_of(text, text.index("impl OfficeTable")))
         said = """\
-impl hh_sqlrows::tables::contracts::ContractsUnderSettlementDate: not proved; antt did not finish `Laws`, for what it cites
-impl hh_sqlrows::tables::contracts::ContractsOfficeTable: not proved; it waits for the proof of `put`
-impl hh_sqlrows::tables::contracts::ContractsListed: proved
+./proofs/StatementFacts.antt:233:62: error: `contracts_under`: as printed, the two types differ only where one has `Eq`
+  (expected), and the other has `Ge` (found)
+./proofs/StatementFacts.antt:240:5: error: `contracts_all`: 1 declaration that depends on `contracts_by`, which was rejected
+./proofs/OrderFacts.antt:12:5: error: `contracts_one`: as printed, the two types differ only where one has `Eq`
+fn hh_sqlrows::tables::contracts::ContractsUnderSettlementDate::under: no proof: expected answers in ./proofs
 """
         self.assertEqual(set(module.told_of(folder, said)), {(tables, "under")})
 
@@ -271,7 +274,7 @@ impl hh_sqlrows::tables::contracts::ContractsListed: proved
         self.assertGreater(len(layers), 10)
         self.assertEqual([], [layer for layer, crates in layers.items() if tried.keys().isdisjoint(crates)])
         self.assertLessEqual({"run_not_committed", "load_answered_and_not_made", "begins_with_a_party"}, tried["hh_sqlstore"])
-        self.assertIn("joined_account_not_seen", tried["hh_kept_rows"])
+        self.assertIn("joined_account_not_seen", tried["hh_settled_periods"])
 
     def lines(self):
         """Each line of the sources of hh_rows, by its file."""

@@ -30,7 +30,7 @@ use Rattle.hh_beside.proofs.DayAccountedFor.{untouched_is_settled}
 use Rattle.hh_beside.proofs.PositionLoads.{known_is_net}
 use Rattle.hh_kept_rows.specs.DayBeside.{IsBesideOf, IsNetBeside, IsSameAs, IsStateBeside, ReadByWhatIsBeside, result_beside}
 use Rattle.hh_kept_rows.specs.DayRows.{HasRowsOn}
-use Rattle.hh_kept_rows.specs.declared.day_beside.DayBeside.{DayBeside}
+use Rattle.hh_settled_periods.specs.declared.day_beside.DayBeside.{DayBeside}
 use Rattle.hh_kept_rows.proofs.DayRowLaws.{filter_kept, settled_alike, terms_alike}
 
 -- a known position is its volume

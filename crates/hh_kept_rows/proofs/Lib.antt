@@ -5,9 +5,6 @@ mod DayRowLaws
 mod NamedLaws
 mod OutputLaws
 mod PartLaws
-mod RangeLaws
-mod RunRangeLaws
-mod SameLaws
 mod SoundLaws
 mod UntilLaws
 pub use Rattle.hh_beside.proofs.PositionKeys

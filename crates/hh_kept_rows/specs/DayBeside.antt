@@ -1,7 +1,7 @@
 -- What a Settlement Day is settled from if a store keeps something beside the tables. A Settlement Period may be taken over as the
 -- latest run of its date settled it, if it was not touched since and the date's accounts are those of the run. Any other is settled
 -- from net volumes if the positions of all its accounts are known, and from its rows if one of them is lost.
-use Rattle.std.specs.Prelude.{◌≡◌, ◌≤◌, ◌⊎◌, ℕ, List, map, filter, All, Option, Some, None, IsTrue, IsFalse}
+use Rattle.std.specs.Prelude.{◌≡◌, ◌⊎◌, ℕ, List, filter, All, Some, IsTrue, IsFalse}
 use Rattle.std.specs.FinMap.{find}
 use Rattle.std.specs.List.{AllZip}
 use Rattle.std.specs.Ordering.{eq_by_cmp}
@@ -10,21 +10,22 @@ use Rattle.hh_rules.specs.History.{Registered}
 use Rattle.hh_rules.specs.Positions.{position_key_cmp}
 use Rattle.hh_rules.specs.declared.positions.PositionKey.{PositionKey}
 use Rattle.hh_calc.specs.Ready.{HasNetVolumes}
-use Rattle.hh_calc.specs.Terms.{Net, PeriodDataView, Settled, settled_as}
+use Rattle.hh_calc.specs.Terms.{Net, PeriodDataView}
 use Rattle.hh_runs.specs.declared.run_key.RunKey.{RunKey}
 use Rattle.hh_runs.specs.declared.summary.Summary.{Summary}
 use Rattle.hh_states.specs.Content.{Content}
 use Rattle.hh_states.specs.DaySettlement.{missing_meter, missing_price}
 use Rattle.hh_states.specs.PeriodSettlement.{accounts_on, terms_at}
 use Rattle.hh_states.specs.Runs.{run_key_cmp}
-use Rattle.hh_states.specs.Beside.{Beside, agrees, credit_row, is_among, is_credit_of, is_result_of, latest_on}
+use Rattle.hh_states.specs.Beside.{Beside, agrees, is_among, latest_on}
 use Rattle.hh_beside.specs.PositionLaws.{are_known, net_volumes_at}
 use Rattle.hh_store.specs.declared.day_data.DayData.{DayData}
 use Rattle.hh_store.specs.declared.day_data.PeriodState.{PeriodState}
 use Rattle.hh_store.specs.declared.day_data.PeriodState.TheVariants.{Changed, Same}
 use Rattle.hh_store.specs.DayReads.{IsDayData}
 use Rattle.hh_kept_rows.specs.DayRows.{HasRowsOn}
-use Rattle.hh_kept_rows.specs.declared.day_beside.DayBeside.{DayBeside}
+use Rattle.hh_settled_periods.specs.declared.day_beside.DayBeside.{DayBeside}
+pub use Rattle.hh_settled_periods.specs.SettledPeriods.{IsSameAs, IsSameSince, result_beside}
 
 -- what is kept of a date: its latest run with the rows of that run, the touched Settlement Periods of the date, and its
 -- positions
@@ -38,27 +39,7 @@ pub record IsBesideOf (content : Content) (beside : Beside) (date : ℕ) (day : 
   pub positions : (key : PositionKey) → key.at.date ≡ date
       → find position_key_cmp key day.positions ≡ find position_key_cmp key beside.positions
 
--- a Settlement Period as a run settled it, by the rows of the run
-abbrev pub result_beside : DayBeside → RunKey → ℕ → Settled
-result_beside day run period =
-    settled_as (map (λ e. e.1) (filter (is_result_of run period) day.results))
-    (map credit_row (filter (is_credit_of run period) day.credits))
-
 module _ (tables : Registered) (beside : DayBeside) (at : SettlementPeriod) where
-  -- the latest run has this Settlement Period and settled it to this, with the accounts that the date has now; the period was not
-  -- touched since
-  pub record IsSameSince (run : RunKey) (summary : Summary) (s : Settled) : Type 0 where
-    pub first : 1 ≤ at.period
-    pub last : at.period ≤ summary.periods
-    pub untouched : IsFalse (is_among beside.touched.items at)
-    pub accounts : map (λ r. r.account) s.accounts ≡ accounts_on tables at.date
-    pub settled : s ≡ result_beside beside run at.period
-
-  -- the same for the latest run, if there is one; otherwise false
-  abbrev pub IsSameAs : Option (RunKey × Summary) → Settled → Type 0
-  IsSameAs None s = ⊥
-  IsSameAs (Some (run, summary)) s = IsSameSince run summary s
-
   -- what a Settlement Period is settled from, with its accounts' positions instead of the contract volumes in force; all of
   -- them are known
   pub record IsNetBeside (p : PeriodDataView) : Type 0 where
@@ -74,7 +55,7 @@ module _ (tables : Registered) (beside : DayBeside) (at : SettlementPeriod) wher
   -- a Settlement Period is settled from this, by the rows or by the positions; or it is as the latest run settled it
   abbrev pub IsStateBeside : PeriodState → Type 0
   IsStateBeside (Changed p) = IsByRows p ⊎ IsNetBeside p
-  IsStateBeside (Same s) = IsSameAs beside.latest s
+  IsStateBeside (Same s) = IsSameAs tables beside at beside.latest s
 
 -- What is read of these Settlement Periods: the first that has no price, if there is one; the first reading that a unit
 -- lacks, if there is one; and the state of each.

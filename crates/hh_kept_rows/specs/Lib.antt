@@ -7,6 +7,7 @@ pub use Rattle.hh_beside.specs.DayLaws
 pub use Rattle.hh_beside.specs.Keeping
 pub use Rattle.hh_beside.specs.Laws
 pub use Rattle.hh_beside.specs.PositionLaws
+pub use Rattle.hh_settled_periods.specs.declared.day_beside
 pub use Rattle.hh_store.specs.declared.output_fault
 pub use Rattle.hh_store.specs.declared.store_fault
 pub use Rattle.hh_store.specs.Crashes

@@ -14,31 +14,12 @@ use crate::day_places::DayPlaces;
 use crate::kept_day::DayRoll;
 use crate::kept_register::KeptRegister;
 use crate::net_volumes::nets_at;
-use hh_calc::{AccountRow, Contracts, PeriodData};
-use hh_num::Ticks;
+use hh_calc::{Contracts, PeriodData};
 use hh_rows::SettlementPeriod;
-use hh_rules::{Position, PositionKey};
-use hh_runs::{RunKey, Summary};
-use hh_states::{CreditKey, ResultKey};
+use hh_settled_periods::DayBeside;
 use hh_store::{DayData, PeriodState, periods_of};
-use hh_tables::ListTable;
 use hh_time::{Day, SettlementDate};
 use std::alloc::{AllocError, Global};
-
-/// What a store keeps beside the rows of a date, so that a run settles again only what has changed.
-#[derive(Drop)]
-pub struct DayBeside {
-    /// The latest run of the date, with its summary, if there is one.
-    pub latest: Option<(RunKey, Summary)>,
-    /// The rows of the accounts in that run.
-    pub results: ListTable<ResultKey, AccountRow>,
-    /// The credits of that run.
-    pub credits: ListTable<CreditKey, Ticks>,
-    /// The Settlement Periods of the date that were touched since.
-    pub touched: Vec<SettlementPeriod>,
-    /// The contract positions of the date.
-    pub positions: ListTable<PositionKey, Position>,
-}
 
 impl KeptRegister {
     /// What the Settlement Periods of a day are settled from, and what is missing for that. Periods

@@ -24,12 +24,11 @@ mod net_volumes;
 mod part;
 mod reports;
 mod run_rows;
-mod same_since;
 
-pub use day_beside::DayBeside;
 pub use hh_beside::{
     loads_agree, made_anew_agrees, made_anew_are_written, runs_agree, sound_states,
 };
+pub use hh_settled_periods::DayBeside;
 pub use hh_store::{DayData, KeptFile, LoadChange, OutputFault, RunChange, StoreFault, Tables};
 pub use kept_register::KeptRegister;
 pub use laws::{contracts_by_their_rows, parts_of_parts, read_by_what_is_beside};

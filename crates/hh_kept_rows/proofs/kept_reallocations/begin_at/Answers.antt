@@ -2,7 +2,7 @@ use Rattle.std.proofs.Common.{◌≡◌, ◌≤◌, true, false, rules, arith, l
 use Rattle.hh_tables.proofs.MergeLaws.{from_true}
 use Rattle.hh_tables.proofs.OrderLaws.{below_partitions}
 use Rattle.hh_kept_rows.specs.steps.KeptReallocations.{is_before}
-use Rattle.hh_kept_rows.proofs.RangeLaws.{all_before, beside, beside_rises, none_behind}
+use Rattle.hh_settled_periods.proofs.RangeLaws.{all_before, beside, beside_rises, none_behind}
 use Rattle.hh_kept_rows.proofs.kept_reallocations.begin_at.Goals as goal
 
 pub returns-clause-begins : goal.returns-clause-begins

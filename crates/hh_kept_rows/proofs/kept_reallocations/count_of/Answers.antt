@@ -1,6 +1,6 @@
 use Rattle.std.proofs.Common.{◌≡◌, true, rules}
 use Rattle.hh_kept_rows.specs.steps.KeptReallocations.{is_no_later}
-use Rattle.hh_kept_rows.proofs.RangeLaws.{one_more}
+use Rattle.hh_settled_periods.proofs.RangeLaws.{one_more}
 use Rattle.hh_kept_rows.proofs.kept_reallocations.count_of.Goals as goal
 
 pub loop-count-preserved : goal.loop-count-preserved

@@ -4,7 +4,7 @@ use Rattle.std.proofs.lemmas.List.Sorted.{IsPartitionPoint-from_clause}
 use Rattle.hh_tables.proofs.MergeLaws.{from_true}
 use Rattle.hh_tables.proofs.OrderLaws.{below_partitions}
 use Rattle.hh_kept_rows.specs.steps.KeptReallocations.{is_before}
-use Rattle.hh_kept_rows.proofs.RangeLaws.{beside, beside_rises}
+use Rattle.hh_settled_periods.proofs.RangeLaws.{beside, beside_rises}
 use Rattle.hh_kept_rows.proofs.kept_reallocations.first_of.Goals as goal
 
 pub returns-clause-begins : goal.returns-clause-begins

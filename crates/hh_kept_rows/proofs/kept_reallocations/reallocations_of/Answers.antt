@@ -5,7 +5,7 @@ use Rattle.std.proofs.lemmas.List.Sorted.{IsNonDecreasingBy-drop}
 use Rattle.hh_tables.proofs.MergeLaws.{from_true}
 use Rattle.hh_tables.proofs.OrderLaws.{up_to_partitions}
 use Rattle.hh_kept_rows.specs.steps.KeptReallocations.{is_no_later}
-use Rattle.hh_kept_rows.proofs.RangeLaws.{beside, beside_rises, between, none_behind}
+use Rattle.hh_settled_periods.proofs.RangeLaws.{beside, beside_rises, between, none_behind}
 use Rattle.hh_kept_rows.proofs.kept_reallocations.reallocations_of.Goals as goal
 
 pub returns : goal.returns

@@ -2,8 +2,8 @@ use Rattle.std.proofs.Common.{◌≡◌, rules, sym, ap, subst, ◌∙◌, List,
 use Rattle.std.specs.Prelude.{IfSome}
 use Rattle.hh_calc.specs.Terms.{Settled, settled_as}
 use Rattle.hh_states.specs.Beside.{credit_row}
-use Rattle.hh_kept_rows.specs.DayBeside.{IsSameAs, IsSameSince}
-use Rattle.hh_kept_rows.proofs.day_beside.DayBeside.same_since.Goals as goal
+use Rattle.hh_settled_periods.specs.SettledPeriods.{IsSameAs, IsSameSince}
+use Rattle.hh_settled_periods.proofs.day_beside.DayBeside.same_since.Goals as goal
 
 -- a weaker property of what was found follows from a stronger one
 weaker : {X : Type 0} (P Q : X → Type 0) → ((x : X) → P x → Q x) → (o : Option X) → IfSome o P → IfSome o Q

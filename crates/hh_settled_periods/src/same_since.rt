@@ -6,7 +6,7 @@ ghost use Rattle.hh_rules.specs.History.{Registered};
 ghost use Rattle.hh_states.specs.PeriodSettlement.{accounts_on};
 ghost use Rattle.hh_states.specs.Runs.{run_key_cmp};
 ghost use Rattle.hh_states.specs.Beside.{credit_row, is_among, is_credit_of, is_result_of};
-ghost use Rattle.hh_kept_rows.specs.DayBeside.{IsSameAs};
+ghost use Rattle.hh_settled_periods.specs.SettledPeriods.{IsSameAs};
 
 use crate::day_beside::DayBeside;
 use hh_calc::{AccountRow, CreditRow, PeriodResult};
@@ -21,8 +21,8 @@ use std::cmp::Ordering;
 
 impl DayBeside {
     /// A Settlement Period as the latest run of its date settled it, if that run had the period and settled
-    /// it for these accounts, and the period was not touched since.
-    pub(crate) fn same_since(
+    /// it for these accounts, and the period was not touched since. `Err` only if memory is refused.
+    pub fn same_since(
         &self,
         alloc: Global,
         accounts: &[Account],

@@ -3,8 +3,8 @@ use Rattle.std.specs.Prelude.{not}
 use Rattle.std.specs.Cmp.{Equal-is}
 use Rattle.hh_names.specs.Accounts.{account_cmp}
 use Rattle.hh_names.proofs.AccountLaws.{exact_accounts}
-use Rattle.hh_kept_rows.proofs.SameLaws.{mapped_more}
-use Rattle.hh_kept_rows.proofs.same_since.are_accounts_of.Goals as goal
+use Rattle.hh_settled_periods.proofs.SameLaws.{mapped_more}
+use Rattle.hh_settled_periods.proofs.same_since.are_accounts_of.Goals as goal
 
 passes : (b : Bool) → false ≡ not b → b ≡ true
 passes true h = refl

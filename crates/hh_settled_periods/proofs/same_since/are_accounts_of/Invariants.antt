@@ -1,5 +1,5 @@
 use Rattle.std.proofs.Common.{◌≡◌, map, take}
-use Rattle.hh_kept_rows.proofs.same_since.are_accounts_of.Given as goal
+use Rattle.hh_settled_periods.proofs.same_since.are_accounts_of.Given as goal
 
 -- the rows so far are of the accounts so far
 abbrev pub invariant-loop-place : goal.invariant-loop-place

@@ -9,8 +9,8 @@ use Rattle.hh_tables.proofs.MergeLaws.{from_true}
 use Rattle.hh_tables.proofs.OrderLaws.{below_partitions, up_to_partitions}
 use Rattle.hh_states.specs.Content.{result_key_cmp}
 use Rattle.hh_states.specs.Beside.{is_result_of}
-use Rattle.hh_kept_rows.proofs.RunRangeLaws.{result_order, results_between, results_rise}
-use Rattle.hh_kept_rows.proofs.same_since.results_at.Goals as goal
+use Rattle.hh_settled_periods.proofs.RunRangeLaws.{result_order, results_between, results_rise}
+use Rattle.hh_settled_periods.proofs.same_since.results_at.Goals as goal
 
 pub returns : goal.returns
 returns c =

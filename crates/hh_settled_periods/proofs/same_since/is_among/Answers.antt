@@ -1,6 +1,6 @@
 use Rattle.std.proofs.Common.{rules, sym}
-use Rattle.hh_kept_rows.proofs.SameLaws.{not_yet_among, now_among}
-use Rattle.hh_kept_rows.proofs.same_since.is_among.Goals as goal
+use Rattle.hh_settled_periods.proofs.SameLaws.{not_yet_among, now_among}
+use Rattle.hh_settled_periods.proofs.same_since.is_among.Goals as goal
 
 pub returns-then-is_eq : goal.returns-then-is_eq
 returns-then-is_eq c =

@@ -9,8 +9,8 @@ use Rattle.hh_tables.proofs.MergeLaws.{from_true}
 use Rattle.hh_tables.proofs.OrderLaws.{below_partitions, up_to_partitions}
 use Rattle.hh_states.specs.Content.{credit_key_cmp}
 use Rattle.hh_states.specs.Beside.{is_credit_of}
-use Rattle.hh_kept_rows.proofs.RunRangeLaws.{credit_order, credits_between, credits_rise}
-use Rattle.hh_kept_rows.proofs.same_since.credits_at.Goals as goal
+use Rattle.hh_settled_periods.proofs.RunRangeLaws.{credit_order, credits_between, credits_rise}
+use Rattle.hh_settled_periods.proofs.same_since.credits_at.Goals as goal
 
 pub returns : goal.returns
 returns c =

@@ -17,7 +17,7 @@ use Rattle.hh_states.specs.declared.run_keys.ResultKey.{ResultKey}
 use Rattle.hh_states.specs.Runs.{run_key_cmp}
 use Rattle.hh_states.proofs.KeyLaws.{run_key_total}
 use Rattle.hh_states.specs.Beside.{is_credit_of, is_result_of}
-use Rattle.hh_kept_rows.proofs.RangeLaws.{between}
+use Rattle.hh_settled_periods.proofs.RangeLaws.{between}
 
 -- Settlement Periods of runs in the order of the runs, then of the periods
 abbrev run_period_cmp : RunKey × ℕ → RunKey × ℕ → Ordering

@@ -1,5 +1,5 @@
 use Rattle.std.proofs.Common.{◌≡◌, map, take}
-use Rattle.hh_kept_rows.proofs.same_since.account_rows.Given as goal
+use Rattle.hh_settled_periods.proofs.same_since.account_rows.Given as goal
 
 -- the rows so far
 abbrev pub invariant-loop-entry : goal.invariant-loop-entry

@@ -1,0 +1,3 @@
+pub mod RangeLaws
+mod RunRangeLaws
+mod SameLaws
