@@ -32,12 +32,12 @@ KEPT = "incremental"
 IMPL = re.compile(r"(?m)^impl\b(?:[^{\n]* for)?(?:<[^{\n]*?>)? (\w+)")
 # A constant, with its name.
 CONSTANT = re.compile(r"(?m)^(?:pub(?:\(\w+\))? )?const (\w+):[^;]*;")
-# An `impl` of a trait: the trait with what it is given, and the type.
-IMPL_OF = re.compile(r"(?m)^impl\b(?:<[^{\n]*?>)? ([^{\n]+?) for (\w+)[^{]*\{")
-# What a check says of an `impl` one of whose laws isn't proved: the module, and the name that it has for the `impl`.
-UNPROVED_IMPL = re.compile(r"(?m)^impl \w+::([\w:]+)::(\w+): not proved; antt did not finish")
 # An error of a proof, with the lines that belong to it.
 PROOF_ERROR = re.compile(r"proofs/([\w/]+)/(?:Answers|Invariants|Proof)\.antt:\d+:\d+: error: ([^\n]*)((?:\n[ \t][^\n]*)*)")
+# What a check says of a fact about a text that a function gives, where the text computes to something else: the file, and the fact.
+FALSE_FACT = re.compile(r"(?m)^\./proofs/(\w+)\.antt:\d+:\d+: error: `(\w+)`: [^\n]*the two types differ")
+# A function that is proved by such a fact: the file, the fact, and the function's name.
+PROVED_BY = re.compile(r"using\(crate::proofs::(\w+)::(\w+)\)\)\]\n *(?:pub(?:\(crate\))? )?fn (\w+)")
 # What an error says of a proof that names what is not there, or that rests on what another error is on.
 NO_VERDICT = re.compile(r"has no field|is not in scope|has no `|was not admitted|declarations? that depends? on")
 # What an error says of a proof where the body no longer leaves anything to prove: any body would do.
@@ -131,17 +131,16 @@ def batch_of(crate, edit):
 
 
 def told_of(folder, said):
-    """The functions of which a check says that their bodies are not proved, by what it says of their lines, of their proofs and of the
-    laws of the constants that they give: the name of each behind its module, and behind its type, which may be in another module.
-    No body was judged of one that only waits for the proof of what it calls, nor of one whose proof only names what the body no
-    longer has, or only proves what the body no longer owes."""
+    """The functions of which a check says that their bodies are not proved, by what it says of their lines, of their proofs and of the facts
+    about the texts that they give: the name of each behind its module, and behind its type, which may be in another module. No body was
+    judged of one that only waits for the proof of what it calls, nor of one whose proof only names what the body no longer has, or only
+    proves what the body no longer owes."""
     for file, line, _ in re.findall(r"src/([\w/]+)\.rt:(\d+):\d+: ([^\n]*(?:not proved|error))", said):
         text = (folder / "src" / f"{file}.rt").read_text(encoding="utf-8")
         function = function_at(text, len("\n".join(text.split("\n")[: int(line)])))
         if function:
             yield file.replace("/", "::"), function[1]
-    for module, name in UNPROVED_IMPL.findall(said):
-        yield from givers_of((folder / "src" / f"{module.replace('::', '/')}.rt").read_text(encoding="utf-8"), module, name)
+    yield from false_of(folder, set(FALSE_FACT.findall(said)))
     errors = PROOF_ERROR.findall(said)
     proofs = {
         path.replace("/", "::")
@@ -159,16 +158,12 @@ def told_of(folder, said):
         yield kind, name
 
 
-def givers_of(text, module, name):
-    """The functions that give constants, in the `impl` for which a check has this name: a law of it isn't proved, and says of these
-    constants what no clause says."""
-    blocks = [m for m in IMPL_OF.finditer(text) if m[2] + re.sub(r"\W", "", m[1]) == name]
-    for block in blocks:
-        end = text.index("\n}", block.start())
-        for constant in CONSTANT.finditer(text):
-            giver = giver_of(text, constant.start())
-            if giver and block.end() < giver < end:
-                yield module, function_at(text, giver)[1]
+def false_of(folder, facts):
+    """The functions that are proved by one of these facts, each a file of proofs and a name in it."""
+    for source in (folder / "src").rglob("*.rt") if facts else ():
+        for file, fact, name in PROVED_BY.findall(source.read_text(encoding="utf-8")):
+            if (file, fact) in facts:
+                yield source.relative_to(folder / "src").as_posix().removesuffix(".rt").replace("/", "::"), name
 
 
 def restore(copy, crate):

@@ -12,7 +12,8 @@ use Rattle.hh_rules.specs.History.{Registered}
 use Rattle.hh_states.specs.Changes.{put_row, put_rows}
 use Rattle.hh_sqlrows.specs.Contents.{registered_of}
 use Rattle.hh_sqlrows.specs.Forms.{PutsAll}
-use Rattle.hh_sqlrows.specs.steps.Forms.{PutsAllOrLeaves}
+use Rattle.hh_sqlrows.specs.OfficeSchema.{office}
+use Rattle.hh_sqlrows.specs.steps.Forms.{PutsAllOrLeavesIn}
 use Rattle.hh_sqlrows.specs.Office.{IsOffice}
 use Rattle.hh_sqlrows.specs.OfficeTables as forms
 use Rattle.hh_sqlchanges.specs.steps.Becoming.{Becomes, BecomesOrLeaves}
@@ -80,13 +81,13 @@ module _ (old new : Database) where
 
   -- a group, or nothing
   pub readings_put_or_not : {E : Type 0} (rs : List Row) → length (filter_map meter_entry rs) ≡ length rs → (r : Result Bool E)
-      → IfOk r (PutsAllOrLeaves forms.meters (filter_map meter_entry rs) old new) → IfOk r (BecomesOrLeaves (with_file_rows rs) old new)
+      → IfOk r (PutsAllOrLeavesIn office forms.meters (filter_map meter_entry rs) old new) → IfOk r (BecomesOrLeaves (with_file_rows rs) old new)
   readings_put_or_not rs all (Ok true) puts = readings_put rs all puts
   readings_put_or_not rs all (Ok false) same = same
   readings_put_or_not rs all (Err e) puts = tt
 
   pub volumes_put_or_not : {E : Type 0} (rs : List Row) → length (filter_map contract_entry rs) ≡ length rs → (r : Result Bool E)
-      → IfOk r (PutsAllOrLeaves forms.contracts (filter_map contract_entry rs) old new) → IfOk r (BecomesOrLeaves (with_file_rows rs) old new)
+      → IfOk r (PutsAllOrLeavesIn office forms.contracts (filter_map contract_entry rs) old new) → IfOk r (BecomesOrLeaves (with_file_rows rs) old new)
   volumes_put_or_not rs all (Ok true) puts = volumes_put rs all puts
   volumes_put_or_not rs all (Ok false) same = same
   volumes_put_or_not rs all (Err e) puts = tt

@@ -7,7 +7,8 @@ use Rattle.hh_states.specs.Content.{Content}
 use Rattle.hh_rows.specs.declared.settings.Settings.{Settings}
 use Rattle.hh_sqlrows.specs.Contents.{beside_in, content_of, registered_of, result_of}
 use Rattle.hh_sqlrows.specs.Forms.{TableForm, rows_under_keys}
-use Rattle.hh_sqlrows.specs.steps.Forms.{KeepsOthers}
+use Rattle.hh_sqlrows.specs.OfficeSchema.{office}
+use Rattle.hh_sqlrows.specs.steps.Forms.{KeepsOthersIn}
 use Rattle.hh_sqlrows.specs.Office.{IsOffice}
 use Rattle.hh_sqlrows.specs.OfficeTables as forms
 use Rattle.hh_sqlrows.specs.KeyedRows.{stored_entry, table_in}
@@ -19,7 +20,7 @@ use Rattle.hh_sqlchanges.specs.steps.Becoming.{Becomes}
 rows_kept : {K V : Type 0} (form : TableForm K V) (old new : Trees) → new form.table.tree ≡ old form.table.tree → rows_under_keys form new ≡ rows_under_keys form old
 rows_kept form old new same = ap (λ rows. table_in form.order (stored_entry form.key form.value) rows) same
 
-module _ (tree : ℕ) (old new : Trees) (others : KeepsOthers tree old new) where
+module _ (tree : ℕ) (old new : Trees) (others : KeepsOthersIn office tree old new) where
   pub settings_kept : 0 ≢ tree → rows_under_keys forms.settings new ≡ rows_under_keys forms.settings old
   settings_kept apart = rows_kept forms.settings old new (others.0 apart)
 
@@ -100,7 +101,7 @@ module _ (tree : ℕ) (old new : Trees) (others : KeepsOthers tree old new) wher
     is_in_step = true;
   }
 
-module _ (tree : ℕ) (old new : Database) (is_office : IsOffice new) (others : KeepsOthers tree old.trees new.trees) where
+module _ (tree : ℕ) (old new : Database) (is_office : IsOffice new) (others : KeepsOthersIn office tree old.trees new.trees) where
   -- a change of any table but those of the settings and of the mark
   pub stays_office : 0 < tree → tree < 30 → StaysOffice old new
   stays_office low high = record {

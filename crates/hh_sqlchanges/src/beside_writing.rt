@@ -1,11 +1,9 @@
 //! Writing what is kept beside the content.
 
-ghost use Rattle.std.specs.Prelude.{◌≡◌, map, OnOk};
-ghost use Rattle.sqlite.specs.Held.{state};
+ghost use Rattle.std.specs.Prelude.{map};
 ghost use Rattle.hh_sqlrows.specs.Forms.{PutsAll};
-ghost use Rattle.hh_sqlrows.specs.Office.{IsOffice};
 ghost use Rattle.hh_sqlrows.specs.OfficeTables as tables;
-ghost use Rattle.hh_sqlrows.specs.Reads.{Inside, WritesInside};
+ghost use Rattle.hh_sqlrows.specs.Reads.{MakesOffice, WritesInside};
 ghost use Rattle.hh_sqlchanges.specs.Writes.{WritesBesideAnew};
 ghost use Rattle.hh_sqlchanges.specs.steps.Becoming.{WritesBeside, touched_entry};
 
@@ -25,10 +23,8 @@ pub fn write_beside_anew<S: Alter>(
     touched: &[SettlementPeriod],
 ) -> Result<(), RowFault>
     ensures frame { WritesInside S.Store tx.old tx.new result }
-    ensures writes { let old = state S.Store tx.old.conn.now in
-        let new = state S.Store tx.new.conn.now in
-        Inside old new (IsOffice old.now
-        → OnOk result (WritesBesideAnew positions.now touched.now old.now new.now)) }
+    ensures writes { MakesOffice S.Store tx.old tx.new result
+        (WritesBesideAnew positions.now touched.now) }
 {
     write_beside(tx, alloc, positions, touched)?;
     replace::<Marks, S>(tx, alloc, &OneRow, &true)
@@ -42,10 +38,8 @@ pub(crate) fn write_beside<S: Alter>(
     touched: &[SettlementPeriod],
 ) -> Result<(), RowFault>
     ensures frame { WritesInside S.Store tx.old tx.new result }
-    ensures writes { let old = state S.Store tx.old.conn.now in
-        let new = state S.Store tx.new.conn.now in
-        Inside old new (IsOffice old.now
-        → OnOk result (WritesBeside positions.now touched.now old.now new.now)) }
+    ensures writes { MakesOffice S.Store tx.old tx.new result
+        (WritesBeside positions.now touched.now) }
 {
     replace_all::<Positions, S>(tx, alloc, positions)?;
     touch_periods(tx, alloc, touched)
@@ -58,10 +52,8 @@ fn touch_periods<S: Alter>(
     periods: &[SettlementPeriod],
 ) -> Result<(), RowFault>
     ensures frame { WritesInside S.Store tx.old tx.new result }
-    ensures puts { let old = state S.Store tx.old.conn.now in
-        let new = state S.Store tx.new.conn.now in
-        Inside old new (IsOffice old.now
-        → OnOk result (PutsAll tables.touched (map touched_entry periods.now) old.now new.now)) }
+    ensures puts { MakesOffice S.Store tx.old tx.new result
+        (PutsAll tables.touched (map touched_entry periods.now)) }
 {
     'periods: for at in periods {
         replace::<Touched, S>(tx, alloc, at, &NoColumns)?;

@@ -1,10 +1,10 @@
 //! Writing the rows of a file, a group by one statement where that can be.
 
-ghost use Rattle.std.specs.Prelude.{◌≡◌, filter_map, IfOk, OnOk};
+ghost use Rattle.std.specs.Prelude.{◌≡◌, filter_map, IfOk};
 ghost use Rattle.hh_rules.specs.Entries.{contract_entry, meter_entry};
 ghost use Rattle.sqlite.specs.Held.{state};
 ghost use Rattle.hh_sqlrows.specs.Office.{IsOffice};
-ghost use Rattle.hh_sqlrows.specs.Reads.{Inside, WritesInside};
+ghost use Rattle.hh_sqlrows.specs.Reads.{Inside, MakesOffice, WritesInside};
 ghost use Rattle.hh_sqlchanges.specs.steps.Becoming.{Becomes, BecomesOrLeaves};
 ghost use Rattle.hh_sqlchanges.specs.steps.FileRows.{with_file_row, with_file_rows};
 
@@ -24,10 +24,7 @@ pub(crate) fn write_file_rows<S: Alter>(
     rows: &[Row],
 ) -> Result<(), RowFault>
     ensures frame { WritesInside S.Store tx.old tx.new result }
-    ensures writes { let old = state S.Store tx.old.conn.now in
-        let new = state S.Store tx.new.conn.now in
-        Inside old new (IsOffice old.now
-        → OnOk result (Becomes (with_file_rows rows.now) old.now new.now)) }
+    ensures writes { MakesOffice S.Store tx.old tx.new result (Becomes (with_file_rows rows.now)) }
 {
     let mut are_new = true;
     'groups: for group in rows.chunks(GROUP) {
@@ -45,10 +42,7 @@ fn write_group<S: Alter>(
     may_be_new: bool,
 ) -> Result<bool, RowFault>
     ensures frame { WritesInside S.Store tx.old tx.new result }
-    ensures writes { let old = state S.Store tx.old.conn.now in
-        let new = state S.Store tx.new.conn.now in
-        Inside old new (IsOffice old.now
-        → OnOk result (Becomes (with_file_rows rows.now) old.now new.now)) }
+    ensures writes { MakesOffice S.Store tx.old tx.new result (Becomes (with_file_rows rows.now)) }
 {
     if may_be_new {
         write_new_group(tx, alloc, rows)
@@ -65,10 +59,7 @@ fn write_new_group<S: Alter>(
     rows: &[Row],
 ) -> Result<bool, RowFault>
     ensures frame { WritesInside S.Store tx.old tx.new result }
-    ensures writes { let old = state S.Store tx.old.conn.now in
-        let new = state S.Store tx.new.conn.now in
-        Inside old new (IsOffice old.now
-        → OnOk result (Becomes (with_file_rows rows.now) old.now new.now)) }
+    ensures writes { MakesOffice S.Store tx.old tx.new result (Becomes (with_file_rows rows.now)) }
 {
     if insert_rows(tx, alloc, rows)? {
         Ok(true)
@@ -171,10 +162,7 @@ fn write_each_row<S: Alter>(
     rows: &[Row],
 ) -> Result<(), RowFault>
     ensures frame { WritesInside S.Store tx.old tx.new result }
-    ensures writes { let old = state S.Store tx.old.conn.now in
-        let new = state S.Store tx.new.conn.now in
-        Inside old new (IsOffice old.now
-        → OnOk result (Becomes (with_file_rows rows.now) old.now new.now)) }
+    ensures writes { MakesOffice S.Store tx.old tx.new result (Becomes (with_file_rows rows.now)) }
 {
     'rows: for row in rows {
         write_file_row(tx, alloc, row)?;
@@ -189,10 +177,7 @@ fn write_file_row<S: Alter>(
     row: &Row,
 ) -> Result<(), RowFault>
     ensures frame { WritesInside S.Store tx.old tx.new result }
-    ensures writes { let old = state S.Store tx.old.conn.now in
-        let new = state S.Store tx.new.conn.now in
-        Inside old new (IsOffice old.now
-        → OnOk result (Becomes (with_file_row row.now) old.now new.now)) }
+    ensures writes { MakesOffice S.Store tx.old tx.new result (Becomes (with_file_row row.now)) }
 {
     match row {
         Row::Party(row) => replace::<Parties, S>(tx, alloc, &row.party, &row.registration),

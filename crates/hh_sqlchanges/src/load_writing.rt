@@ -1,9 +1,6 @@
 //! Writing what an accepted file changes.
 
-ghost use Rattle.std.specs.Prelude.{◌≡◌, OnOk};
-ghost use Rattle.sqlite.specs.Held.{state};
-ghost use Rattle.hh_sqlrows.specs.Office.{IsOffice};
-ghost use Rattle.hh_sqlrows.specs.Reads.{Inside, WritesInside};
+ghost use Rattle.hh_sqlrows.specs.Reads.{MakesOffice, WritesInside};
 ghost use Rattle.hh_states.specs.Changes.{effect_of_load};
 ghost use Rattle.hh_sqlchanges.specs.Writes.{ChangesByLoad};
 ghost use Rattle.hh_sqlchanges.specs.steps.Becoming.{Becomes};
@@ -29,10 +26,8 @@ pub fn write_load<S: Alter>(
     touched: &[SettlementPeriod],
 ) -> Result<(), RowFault>
     ensures frame { WritesInside S.Store tx.old tx.new result }
-    ensures writes { let old = state S.Store tx.old.conn.now in
-        let new = state S.Store tx.new.conn.now in
-        Inside old new (IsOffice old.now → OnOk result
-        (ChangesByLoad change.now positions.now touched.now old.now new.now)) }
+    ensures writes { MakesOffice S.Store tx.old tx.new result
+        (ChangesByLoad change.now positions.now touched.now) }
 {
     write_content(tx, alloc, change)?;
     write_beside(tx, alloc, positions, touched)
@@ -45,10 +40,8 @@ fn write_content<S: Alter>(
     change: &LoadChange,
 ) -> Result<(), RowFault>
     ensures frame { WritesInside S.Store tx.old tx.new result }
-    ensures writes { let old = state S.Store tx.old.conn.now in
-        let new = state S.Store tx.new.conn.now in
-        Inside old new (IsOffice old.now
-        → OnOk result (Becomes (effect_of_load change.now) old.now new.now)) }
+    ensures writes { MakesOffice S.Store tx.old tx.new result
+        (Becomes (effect_of_load change.now)) }
 {
     replace::<Files, S>(tx, alloc, &change.key(), change.file())?;
     write_file_rows(tx, alloc, change.rows())?;

@@ -1,9 +1,6 @@
 //! Writing what a new run changes.
 
-ghost use Rattle.std.specs.Prelude.{◌≡◌, OnOk};
-ghost use Rattle.sqlite.specs.Held.{state};
-ghost use Rattle.hh_sqlrows.specs.Office.{IsOffice};
-ghost use Rattle.hh_sqlrows.specs.Reads.{Inside, WritesInside};
+ghost use Rattle.hh_sqlrows.specs.Reads.{MakesOffice, WritesInside};
 ghost use Rattle.hh_sqlchanges.specs.Writes.{ChangesByRun};
 ghost use Rattle.hh_sqlchanges.specs.steps.Becoming.{StoresRunAlone};
 
@@ -24,10 +21,7 @@ pub fn write_run<S: Alter>(
     change: &RunChange,
 ) -> Result<(), RowFault>
     ensures frame { WritesInside S.Store tx.old tx.new result }
-    ensures writes { let old = state S.Store tx.old.conn.now in
-        let new = state S.Store tx.new.conn.now in
-        Inside old new (IsOffice old.now
-        → OnOk result (ChangesByRun change.now old.now new.now)) }
+    ensures writes { MakesOffice S.Store tx.old tx.new result (ChangesByRun change.now) }
 {
     write_run_rows(tx, alloc, change)?;
     remove_under::<Touched, SettlementDate, S>(tx, alloc, &change.key().date)
@@ -40,10 +34,7 @@ fn write_run_rows<S: Alter>(
     change: &RunChange,
 ) -> Result<(), RowFault>
     ensures frame { WritesInside S.Store tx.old tx.new result }
-    ensures writes { let old = state S.Store tx.old.conn.now in
-        let new = state S.Store tx.new.conn.now in
-        Inside old new (IsOffice old.now
-        → OnOk result (StoresRunAlone change.now old.now new.now)) }
+    ensures writes { MakesOffice S.Store tx.old tx.new result (StoresRunAlone change.now) }
 {
     replace::<Runs, S>(tx, alloc, &change.key(), &change.summary())?;
     insert_results(tx, alloc, change.results())?;

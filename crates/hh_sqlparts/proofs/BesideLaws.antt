@@ -18,7 +18,7 @@ use Rattle.hh_states.specs.Runs.{last_of, run_key_cmp}
 use Rattle.hh_states.specs.Beside.{is_among, latest_on}
 use Rattle.hh_kept_rows.proofs.PositionKeys.{exact_position_keys}
 use Rattle.hh_kept_rows.specs.DayBeside.{IsBesideOf}
-use Rattle.hh_kept_rows.specs.declared.day_beside.DayBeside.{DayBeside}
+use Rattle.hh_kept_rows.specs.day_beside.DayBeside.{DayBeside}
 use Rattle.hh_sqlrows.specs.Contents.{beside_in, content_of, result_of, touched_periods}
 use Rattle.hh_sqlrows.specs.Forms.{rows_under_keys}
 use Rattle.hh_sqlrows.specs.OfficeTables as tables

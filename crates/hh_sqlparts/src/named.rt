@@ -6,14 +6,14 @@ ghost use Rattle.hh_sqlrows.specs.Contents.{registered_of};
 ghost use Rattle.hh_sqlparts.specs.Named.{JudgesFor};
 ghost use Rattle.hh_sqlrows.specs.Reads.{OfSettled, ReadsSettled};
 
-use crate::named_tables::{
-    select_contracts_named, select_meters_named, select_prices_named, select_reallocations_named,
-    select_references_named,
-};
+use crate::named_tables::{rows_named, rows_under_named};
 use crate::tables::{all_parties, all_units};
 use hh_kept_rows::KeptRegister;
+use hh_names::UnitId;
 use hh_rows::Row;
-use hh_sqlrows::RowFault;
+use hh_sqlrows::tables::{Contracts, Meters, Prices, Reallocations, References};
+use hh_sqlrows::{RowFault, UnitDate};
+use hh_time::SettlementDate;
 use sqlite::{Alter, Connection};
 use std::alloc::Global;
 
@@ -32,11 +32,11 @@ pub fn select_named<S: Alter>(
 {
     let parties = all_parties(conn, alloc)?;
     let units = all_units(conn, alloc)?;
-    let references = select_references_named(conn, alloc, rows)?;
-    let meters = select_meters_named(conn, alloc, rows)?;
-    let prices = select_prices_named(conn, alloc, rows)?;
-    let contracts = select_contracts_named(conn, alloc, rows)?;
-    let reallocations = select_reallocations_named(conn, alloc, rows)?;
+    let references = rows_named::<References, S>(conn, alloc, rows)?;
+    let meters = rows_under_named::<Meters, UnitDate, S>(conn, alloc, rows)?;
+    let prices = rows_under_named::<Prices, SettlementDate, S>(conn, alloc, rows)?;
+    let contracts = rows_named::<Contracts, S>(conn, alloc, rows)?;
+    let reallocations = rows_under_named::<Reallocations, UnitId, S>(conn, alloc, rows)?;
     Ok(KeptRegister {
         parties,
         units,

@@ -7,6 +7,7 @@ pub mod Office
 pub mod OfficeSchema
 pub mod OfficeTables
 pub mod Reads
+pub mod UnitDates
 pub mod facts
 pub mod steps
 pub use Rattle.hh_keyed_rows.specs.declared.amounts

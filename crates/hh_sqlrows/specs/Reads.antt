@@ -1,8 +1,11 @@
 -- What a call on an office leaves.
 use Rattle.std.specs.Prelude.{Result}
+use Rattle.sqlite.specs.declared.transaction.Transaction.{Transaction}
+use Rattle.sqlite.specs.Effect.{Database}
 use Rattle.sqlite.specs.State.{State}
-use Rattle.hh_sqltables.specs.Frames.{OfOfficeOf, OfSettledOf, ReadsOfficeOf, ReadsSettledOf}
-pub use Rattle.hh_sqltables.specs.Frames.{Inside, IsHonest, LeavesNoMore, Reads, StaysOpen, Stood, WritesInside}
+use Rattle.sqlite_trees.specs.declared.store.Store.{Ghosts}
+use Rattle.hh_sqltables.specs.Frames.{MakesIn, OfOfficeOf, ReadsOfficeOf}
+pub use Rattle.hh_sqltables.specs.Frames.{Inside, IsHonest, LeavesNoMore, OfSettledOf, Reads, ReadsSettledOf, StaysOpen, Stood, WritesInside}
 use Rattle.hh_sqlrows.specs.OfficeSchema.{office}
 
 -- `P` holds for a call on an office whose connection is open afterwards
@@ -20,3 +23,7 @@ ReadsOffice = ReadsOfficeOf office
 -- the call is any number of statements on an office with everything committed
 abbrev pub ReadsSettled : {X E : Type 0} → State → State → Result X E → Type 0
 ReadsSettled = ReadsSettledOf office
+
+-- a call in a transaction on an office: if it was answered, `Made` holds of the database before it and after it
+abbrev pub MakesOffice : {S X E : Type 0} → Ghosts S → Transaction S → Transaction S → Result X E → (Database → Database → Type 0) → Type 0
+MakesOffice = MakesIn office

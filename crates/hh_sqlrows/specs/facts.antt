@@ -1,5 +1,2 @@
-pub mod ColumnLaws
 pub mod KeyOrders
-pub mod OrderFacts
 pub mod TableFacts
-pub mod UnitDates

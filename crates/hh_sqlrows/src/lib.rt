@@ -13,10 +13,12 @@ mod run_results;
 pub mod tables;
 mod unit_date;
 
-pub use hh_keyed_rows::{AccountAmounts, LoadChange, NoColumns, OneRow, RowFault, RunChange};
+pub use hh_keyed_rows::{
+    AccountAmounts, Columned, LoadChange, NoColumns, OneRow, RowFault, RunChange,
+};
 pub use hh_sqltables::{
-    GROUP, RowTaker, give_all, insert_all, insert_group, remove_under, replace, replace_all,
-    select, select_all, select_each, select_under, select_under_each,
+    Found, GROUP, RowTaker, Under, give_all, insert_all, insert_group, remove_under, replace,
+    replace_all, select, select_all, select_each, select_under, select_under_each,
 };
 pub use make::make_tables;
 pub use run_results::{give_results_of, insert_results};

@@ -1,15 +1,14 @@
 //! What accounts have in the Settlement Periods of runs, as it is written and given.
 
-ghost use Rattle.std.specs.Prelude.{◌≡◌, [], map, IfOk, OnOk};
+ghost use Rattle.std.specs.Prelude.{◌≡◌, [], map, IfOk};
 ghost use Rattle.std.specs.List.Sorted.{IsNonDecreasingBy};
 ghost use Rattle.sqlite.specs.Held.{state};
 ghost use Rattle.hh_devices.specs.DeviceChanges.{change};
 ghost use Rattle.hh_sqltables.specs.Giving.{GivesEach};
 ghost use Rattle.hh_sqlrows.specs.Contents.{period_row, rows_of_run};
 ghost use Rattle.hh_sqlrows.specs.Forms.{PutsAll};
-ghost use Rattle.hh_sqlrows.specs.Office.{IsOffice};
 ghost use Rattle.hh_sqlrows.specs.OfficeTables.{amount_entry, results};
-ghost use Rattle.hh_sqlrows.specs.Reads.{Inside, OfOffice, ReadsOffice, WritesInside};
+ghost use Rattle.hh_sqlrows.specs.Reads.{MakesOffice, OfOffice, ReadsOffice, WritesInside};
 
 use crate::tables::Results;
 use hh_devices::Sink;
@@ -27,10 +26,8 @@ pub fn insert_results<S: Alter>(
     rows: &[(ResultKey, AccountRow)],
 ) -> Result<(), RowFault>
     ensures frame { WritesInside S.Store tx.old tx.new result }
-    ensures puts { let old = state S.Store tx.old.conn.now in
-        let new = state S.Store tx.new.conn.now in
-        Inside old new (IsOffice old.now
-        → OnOk result (PutsAll results (map amount_entry rows.now) old.now new.now)) }
+    ensures puts { MakesOffice S.Store tx.old tx.new result
+        (PutsAll results (map amount_entry rows.now)) }
 {
     'groups: for group in rows.chunks(GROUP) {
         let amounts = amounts_under_keys(alloc, group)?;

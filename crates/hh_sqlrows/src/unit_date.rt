@@ -1,6 +1,6 @@
 //! A BM Unit and a date, by which readings are asked for.
 
-ghost use Rattle.hh_sqlrows.specs.facts.UnitDates.{unit_date_columns};
+ghost use Rattle.hh_sqlrows.specs.UnitDates.{unit_date_columns};
 
 use hh_keyed_rows::{Columned, Columns, RowFault};
 use hh_names::UnitId;

@@ -1,6 +1,6 @@
 -- Whether an office was just made, as its connection sees it.
 use Rattle.std.specs.Prelude.{◌≡◌, IsTrue}
-use Rattle.sqlite.specs.State.{HasCleanDisk, State}
+use Rattle.sqlite.specs.State.{State}
 use Rattle.hh_rows.specs.declared.settings.Settings.{Settings}
 use Rattle.hh_sqlrows.specs.Holds.{IsNewOffice}
 
@@ -9,8 +9,3 @@ pub record IsMadeIn (kept : Settings) (s : State) : Type 0 where
   pub is_open : IsTrue s.is_open
   pub settled : s.now ≡ s.committed
   pub is_new : IsNewOffice kept s.committed
-
--- a connection that is open afterwards was open before, and its database is as it was, if the disk has returned what was written
-abbrev pub IsUndone : State → State → Type 0
-IsUndone old new =
-    HasCleanDisk new → IsTrue new.is_open → IsTrue old.is_open × (new.now ≡ old.now) × (new.committed ≡ old.committed)

@@ -1,12 +1,11 @@
 -- A database that is taken over as it was, or from now on with positions.
 use Rattle.std.specs.Prelude.{◌≡◌, ◌⊎◌, true, false, Some, IsTrue}
 use Rattle.sqlite.specs.Effect.{Database}
-use Rattle.sqlite.specs.State.{HasCleanDisk, State}
-use Rattle.sqlite_trees.specs.Tree.{Trees}
+use Rattle.sqlite.specs.State.{State}
 use Rattle.hh_rows.specs.declared.settings.Settings.{Settings}
 use Rattle.hh_sqlrows.specs.Forms.{rows_under_keys}
 use Rattle.hh_sqlrows.specs.Contents.{mark_in, stored_content}
-use Rattle.hh_sqlrows.specs.Leaving.{MayStand}
+use Rattle.hh_sqlrows.specs.Leaving.{MayBecome}
 use Rattle.hh_sqlrows.specs.Office.{IsOffice}
 use Rattle.hh_sqlrows.specs.OfficeTables.{settings}
 
@@ -31,6 +30,4 @@ TakesOver old new =
 -- if the disk has returned what was written, a crash leaves what it would have left before of the open connection, or the last commit with
 -- positions that are kept
 abbrev pub MayKeepBeside : State → State → Type 0
-MayKeepBeside old new =
-    IsTrue old.is_open → HasCleanDisk new → (trees : Trees) → new.may_leave trees
-    → old.may_leave trees ⊎ MayStand (KeepsBeside old.committed) trees
+MayKeepBeside = MayBecome KeepsBeside

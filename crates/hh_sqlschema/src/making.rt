@@ -9,7 +9,8 @@ ghost use Rattle.hh_sqlrows.specs.row_fault.RowFault.TheVariants.{Store};
 ghost use Rattle.hh_sqlrows.specs.OfficeSchema.{nothing};
 ghost use Rattle.hh_sqlrows.specs.Holds.{IsNewOffice};
 ghost use Rattle.hh_sqlschema.specs.Making.{MayMake};
-ghost use Rattle.hh_sqlschema.specs.Made.{IsMadeIn, IsUndone};
+ghost use Rattle.hh_sqlrows.specs.Leaving.{IsUndone};
+ghost use Rattle.hh_sqlschema.specs.Made.{IsMadeIn};
 
 use crate::schema::is_nothing;
 use hh_rows::Settings;

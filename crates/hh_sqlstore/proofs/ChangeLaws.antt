@@ -22,7 +22,7 @@ use Rattle.hh_sqlrows.specs.Holds.{Holds}
 use Rattle.hh_sqlrows.specs.Leaving.{MayStand}
 use Rattle.hh_sqlstore.specs.Stores.{IsIdle, Stored, content_in}
 use Rattle.hh_sqlstore.specs.steps.Changed.{OfCommitted, ChangesNothing, IsChangedBy, MayChange}
-use Rattle.hh_sqlschema.specs.Made.{IsUndone}
+use Rattle.hh_sqlrows.specs.Leaving.{IsUndone}
 use Rattle.hh_sqlstore.proofs.ContentLaws.{holds_content}
 
 -- a transaction that was undone has only read

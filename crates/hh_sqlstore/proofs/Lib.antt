@@ -4,6 +4,5 @@ pub mod ChangeLaws
 pub mod ContentLaws
 pub mod CrashLaws
 pub mod IdleLaws
-pub mod KeepingLaws
 pub mod ReadLaws
 pub mod ReportLaws

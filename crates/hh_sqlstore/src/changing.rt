@@ -6,9 +6,8 @@ ghost use Rattle.sqlite.specs.State.{HasCleanDisk, Survives};
 ghost use Rattle.hh_sqlrows.specs.Office.{IsOffice};
 ghost use Rattle.hh_sqlrows.specs.Reads.{IsHonest};
 ghost use Rattle.hh_sqlchanges.specs.Writes.{ChangesByLoad, ChangesByRun};
-ghost use Rattle.hh_sqlrows.specs.Leaving.{MayStand};
+ghost use Rattle.hh_sqlrows.specs.Leaving.{IsUndone, MayStand};
 ghost use Rattle.hh_sqlstore.specs.steps.Changed.{ChangesNothing, IsChangedBy, KeepsLoad, KeepsRun, MayChange};
-ghost use Rattle.hh_sqlschema.specs.Made.{IsUndone};
 
 use hh_keyed_rows::RowFault;
 use hh_rows::SettlementPeriod;

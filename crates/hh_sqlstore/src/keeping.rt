@@ -7,10 +7,9 @@ ghost use Rattle.hh_sqlrows.specs.Contents.{mark_in};
 ghost use Rattle.hh_sqlrows.specs.Office.{IsOffice};
 ghost use Rattle.hh_sqlrows.specs.Reads.{IsHonest};
 ghost use Rattle.hh_sqlchanges.specs.Writes.{WritesBesideAnew};
-ghost use Rattle.hh_sqlrows.specs.Leaving.{MayStand};
+ghost use Rattle.hh_sqlrows.specs.Leaving.{IsUndone, MayStand};
 ghost use Rattle.hh_sqlschema.specs.TakenOver.{MayKeepBeside};
 ghost use Rattle.hh_sqlstore.specs.steps.Changed.{ChangesNothing, IsChangedBy};
-ghost use Rattle.hh_sqlschema.specs.Made.{IsUndone};
 ghost use Rattle.hh_sqlstore.specs.steps.Kept.{IsMarked};
 
 use hh_keyed_rows::RowFault;

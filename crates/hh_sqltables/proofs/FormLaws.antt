@@ -1,11 +1,9 @@
 -- What the statements that write a row make of an schema, for a table of any form.
-use Rattle.std.proofs.Common.{◌≡◌, ◌≢◌, ℕ, zero, suc, ◌+◌, ◌==◌, List, [], ◌∷◌, ◌++◌, append-nil, length, drop, slice_get, Bool, true, false, not, ◌&&◌, ◌||◌, Option, Some, None, Ok, Err, Result, OnOk, IfOk, arith, inl, inr, refl, sym, ap, subst, ◌∙◌, ◌/◌}
+use Rattle.std.proofs.Common.{[], ◌≡◌, ◌≢◌, ℕ, suc, ◌+◌, ◌==◌, List, ◌∷◌, append-nil, length, drop, Bool, true, false, not, ◌&&◌, ◌||◌, Option, None, Ok, Err, Result, OnOk, IfOk, arith, inl, inr, refl, sym, ap, subst, ◌∙◌}
 use Rattle.sqlite_schema.specs.declared.schema.Schema.{Schema}
-use Rattle.std.specs.List.{AllByRecursion, flat_map, list_all, list_any}
-use Rattle.std.specs.Cmp.{IsTotalOrder}
+use Rattle.std.specs.List.{AllByRecursion, flat_map, list_all}
 use Rattle.std.proofs.lemmas.Bool.{cases_Bool, and_parts, not-true, true≢false}
 use Rattle.std.proofs.lemmas.Bool.Decides.{nat_tests}
-use Rattle.std.proofs.lemmas.Map.Lookups.{CmpEqualImpliesEq}
 use Rattle.sqlite_value.specs.declared.value.Value.{Value}
 use Rattle.sqlite_value.specs.declared.value.Value.TheVariants.{Null, Int, Real, Text, Blob}
 use Rattle.sqlite_value.specs.Keys.{plain}
@@ -14,30 +12,20 @@ use Rattle.sqlite_trees.specs.Tree.{Trees}
 use Rattle.sqlite_trees.specs.View.{IsShaped}
 use Rattle.sqlite_trees.specs.declared.store.Shape.TheVariants as shape
 use Rattle.sqlite_sql.specs.Ops.{is_null}
-use Rattle.sqlite_sql.specs.Program.{overlay}
-use Rattle.sqlite_sql.specs.Term.{Term, lit}
 use Rattle.sqlite_schema.specs.Names.{is_key}
-use Rattle.sqlite_schema.specs.Rules.{agree, are_present, are_typed, clashes, has_computed, passes, Obeys}
+use Rattle.sqlite_schema.specs.Rules.{are_present, are_typed, clashes, has_computed, passes, Obeys}
 use Rattle.sqlite_schema.specs.declared.schema.Column.{Column}
 use Rattle.sqlite_schema.specs.declared.schema.Constraint.{Constraint}
 use Rattle.sqlite_schema.specs.declared.schema.Constraint.TheVariants.{Datatype, NotNull, Unique}
-use Rattle.sqlite_schema.specs.declared.schema.Keys.TheVariants.{Enforced}
 use Rattle.sqlite_schema.specs.declared.schema.Table.{Table}
-use Rattle.sqlite_schema.specs.declared.command.Source.TheVariants.{Values}
-use Rattle.sqlite_schema.specs.declared.command.Command.TheVariants.{Insert, InsertOr}
-use Rattle.sqlite_schema.specs.declared.command.Conflict.TheVariants.{Replace}
-use Rattle.sqlite_rules.specs.Action.{works}
-use Rattle.sqlite_rules.specs.Cast.{cast, cast_all}
-use Rattle.sqlite_rules.specs.Keys.{shares}
+use Rattle.sqlite_rules.specs.Cast.{cast_all}
 use Rattle.sqlite_rules.specs.Lists.{Has}
 use Rattle.sqlite_rules.proofs.ListLemmas.{all_has}
-use Rattle.sqlite.specs.Effect.{Database, value_rows}
-use Rattle.sqlite.specs.Rows.{mended_from, stamped}
-use Rattle.sqlite.specs.Listing.{understood}
+use Rattle.sqlite.specs.Effect.{Database}
+use Rattle.sqlite.specs.Rows.{mended_from}
 use Rattle.sqlite.specs.State.{State, Executes, ExecutesInside}
-use Rattle.sqlite.proofs.Callers.{IsPlain, command_of}
 use Rattle.hh_tables.specs.Tables as tables
-use Rattle.hh_keyed_rows.specs.Codecs.{IsCodec, is_discrete, places_from}
+use Rattle.hh_keyed_rows.specs.Codecs.{is_discrete, places_from}
 use Rattle.hh_keyed_rows.specs.KeyedRows.{columns_of, stored_entry, table_in}
 use Rattle.hh_keyed_rows.specs.Laws.{Fits}
 use Rattle.hh_keyed_rows.proofs.CodecLaws.{all_append}
@@ -207,12 +195,7 @@ module _ (schema : Schema) {K V : Type 0} (form : TableForm K V) (is_form : IsFo
           others = puts.others;
         }
 
-    -- rows that one statement writes, and whose values fit if it is executed
-    pub inserts_all_by : {E : Type 0} (n : ℕ) → length es ≡ n → IsInsertOf schema form sql n → (r : Result Unit E) → OnOk r (AllByRecursion (Fits form.key form.value) es)
-        → OnOk r ((count : ℕ) × ExecutesInside 0 sql (flat_map entry_columns es) old new (Ok count)) → OnOk r (PutsAllIn schema form es old.now new.now)
-    inserts_all_by n long text (Ok done) fits h = inserts fits n long text h.0 h.1.0
-    inserts_all_by n long text (Err e) fits h = tt
-
+    -- rows that one statement writes, or leaves; their values fit if it is executed
     pub inserts_or_leaves_by : {E : Type 0} (n : ℕ) → length es ≡ n → IsInsertOf schema form sql n → (r : Result Bool E) → OnOk r (AllByRecursion (Fits form.key form.value) es)
         → IfOk r (ExecutesOrLeaves sql (flat_map entry_columns es) old new) → IfOk r (PutsAllOrLeavesIn schema form es old.now new.now)
     inserts_or_leaves_by n long text (Ok true) fits h = inserts fits n long text h.0 h.1.0

@@ -1,8 +1,7 @@
 -- What calls leave, one after the other, and what a statement does by the facts of its table.
-use Rattle.std.proofs.Common.{◌≡◌, ◌∙◌, IsTrue, ℕ, List, Ok, Result, Err, OnOk, arith, inl, inr, refl, subst, sym}
+use Rattle.std.proofs.Common.{◌≡◌, ◌∙◌, IsTrue, ℕ, List, Ok, Result, Err, OnOk, arith, inl, inr, subst, sym}
 use Rattle.std.specs.Prelude.{⊤, IsErrAnd}
 use Rattle.sqlite_value.specs.Order.{Row}
-use Rattle.sqlite_trees.specs.Tree.{Trees}
 use Rattle.sqlite_trees.specs.declared.store.Store.{Ghosts}
 use Rattle.sqlite_schema.specs.declared.schema.Schema.{Schema}
 use Rattle.sqlite.specs.Effect.{Database}
@@ -16,15 +15,10 @@ use Rattle.hh_sqltables.specs.Frames.{IsSettledOf, LeavesNoMore, OfSettledOf, Re
 use Rattle.hh_sqltables.specs.Forms.{IsOfficeOf}
 use Rattle.hh_sqltables.specs.steps.Answers.{IsPlainOf}
 
--- what holds of the codecs of a key and of a value and of a text holds of those of the table's form
-pub by_form : {K V : Type 0} (P : Codec K → Codec V → List ℕ → Type 0) (form_key key : Codec K) (form_value value : Codec V) (sql text : List ℕ)
-    → form_key ≡ key → form_value ≡ value → text ≡ sql → P key value text → P form_key form_value sql
-by_form P form_key key form_value value sql text keyed valued same h =
-    subst (λ c. P c form_value sql) (sym keyed) (subst (λ c. P key c sql) (sym valued) (subst (P key value) same h))
-
--- a disk that has returned what was written had done so before
-pub clean_before : (old new : State) {Commits : Trees → Type 0} → Survives old new Commits → HasCleanDisk new → HasCleanDisk old
-clean_before old new survived clean = omega (arith, survived.clean, clean)
+-- what holds of the codecs of a key and of a value holds of those of the table's form
+pub by_form : {K V : Type 0} (P : Codec K → Codec V → Type 0) (form_key key : Codec K) (form_value value : Codec V)
+    → form_key ≡ key → form_value ≡ value → P key value → P form_key form_value
+by_form P form_key key form_value value keyed valued h = subst (λ c. P c form_value) (sym keyed) (subst (P key) (sym valued) h)
 
 -- a call that leaves no more forgets no fault, so it commits nothing
 pub commits_none : (old new : State) → Survives old new (λ _. ⊤) → LeavesNoMore old new → Survives old new (λ _. ⊥)
@@ -91,18 +85,6 @@ reads_as old new x r h = record {
   honest = h.honest;
   faults = h.faults;
   crash = h.crash;
-}
-
--- nothing was read
-pub reads_none : {X E : Type 0} (schema : Schema) (old : State) (r : Result X E) → ReadsSettledOf schema old old r
-reads_none schema old r = record {
-  stood = λ up. up;
-  left = λ up is settled. (refl, refl);
-  outside = λ before. before;
-  stays = λ opened clean. on_any r opened;
-  honest = λ clean. clean;
-  faults = record { clean = omega arith; shield = λ h. h; counts = omega arith; limit = refl; closes = λ clean up. inl up; crash = λ clean db may. inl may };
-  crash = λ opened is clean trees may. may;
 }
 
 -- one reading after another that was answered

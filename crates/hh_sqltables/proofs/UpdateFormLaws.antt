@@ -6,7 +6,6 @@ use Rattle.std.specs.List.Sorted.{IsPermutation}
 use Rattle.std.proofs.lemmas.Bool.{and_parts, cases_Bool, not-true, true≢false}
 use Rattle.std.proofs.lemmas.Cmp.{tied_itself}
 use Rattle.std.specs.FinMap.{put}
-use Rattle.sqlite_value.specs.declared.value.Value.{Value}
 use Rattle.sqlite_value.specs.declared.value.Value.TheVariants.{Null, Int}
 use Rattle.sqlite_value.specs.declared.keys.Collation.TheVariants.{Binary}
 use Rattle.sqlite_value.specs.Keys.{plain}
@@ -20,9 +19,6 @@ use Rattle.sqlite_sql.specs.Query.{IsAnswer, Output, output}
 use Rattle.sqlite_sql.specs.Program.{overlay}
 use Rattle.sqlite_sql.specs.Term.{holds}
 use Rattle.sqlite_schema.specs.Rules.{agree, clashes, equal}
-use Rattle.sqlite_schema.specs.declared.command.Source.TheVariants.{Values}
-use Rattle.sqlite_schema.specs.declared.command.Command.TheVariants.{InsertOr}
-use Rattle.sqlite_schema.specs.declared.command.Conflict.TheVariants.{Abort}
 use Rattle.sqlite_rules.specs.declared.error.Rowids.TheVariants.{Given}
 use Rattle.sqlite_rules.specs.Calls.{ids_of}
 use Rattle.sqlite_rules.specs.Cast.{cast_all, cast_row}
@@ -34,9 +30,8 @@ use Rattle.sqlite_rules.proofs.PlaceLemmas.{given, tied_same}
 use Rattle.sqlite_rules.proofs.TableLemmas.{has_put, int_is}
 use Rattle.sqlite.specs.Effect.{IsDatabase}
 use Rattle.sqlite.specs.Rows.{shown}
-use Rattle.sqlite.specs.Listing.{understood}
 use Rattle.sqlite.specs.State.{Executes, ExecutesInside, State}
-use Rattle.sqlite.proofs.Callers.{IsPlain, command_of, one_permutation}
+use Rattle.sqlite.proofs.Callers.{one_permutation}
 use Rattle.hh_keyed_rows.specs.Codecs.{places_from}
 use Rattle.hh_keyed_rows.specs.KeyedRows.{stored_entry, table_in}
 use Rattle.hh_keyed_rows.specs.Puts.{stored_in}

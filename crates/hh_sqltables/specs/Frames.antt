@@ -2,6 +2,7 @@
 use Rattle.std.specs.Prelude.{◌≡◌, ⊤, false, Result, OnOk, IsTrue}
 use Rattle.sqlite_schema.specs.declared.schema.Schema.{Schema}
 use Rattle.sqlite.specs.declared.transaction.Transaction.{Transaction}
+use Rattle.sqlite.specs.Effect.{Database}
 use Rattle.sqlite.specs.Held.{state}
 use Rattle.sqlite.specs.State.{HasCleanDisk, State, Survives}
 use Rattle.sqlite_trees.specs.declared.store.Store.{Ghosts}
@@ -83,3 +84,10 @@ pub record WritesInside {S X E : Type 0} (g : Ghosts S) (old new : Transaction S
   pub inside : StaysInside (state g old.conn.now) (state g new.conn.now) result
   pub kept : KeepsCommit (state g old.conn.now) (state g new.conn.now)
   pub survives : CommitsNothing (state g old.conn.now) (state g new.conn.now)
+
+-- A call in a transaction on a database with the tables of a schema: if it was answered, `Made` holds of the database before it and after it.
+abbrev pub MakesIn : {S X E : Type 0} → Schema → Ghosts S → Transaction S → Transaction S → Result X E → (Database → Database → Type 0) → Type 0
+MakesIn schema g old new result Made =
+    let before = state g old.conn.now in
+    let after = state g new.conn.now in
+    Inside before after (IsOfficeOf schema before.now → OnOk result (Made before.now after.now))

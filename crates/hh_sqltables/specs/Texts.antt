@@ -1,5 +1,5 @@
 -- What a table's form has to be, and what the text of a statement does in it, under the schema of any version.
-use Rattle.std.specs.Prelude.{◌≡◌, ◌⊎◌, ℕ, suc, ◌+◌, ◌++◌, ◌/◌, List, [], ◌∷◌, length, map, slice_get, Bool, true, false, Option, Some, None, Ok}
+use Rattle.std.specs.Prelude.{◌≡◌, ◌⊎◌, ℕ, suc, ◌+◌, ◌++◌, ◌/◌, List, [], ◌∷◌, length, map, slice_get, Bool, true, false, Some, None, Ok}
 use Rattle.std.specs.List.{list_all, list_any}
 use Rattle.std.specs.Cmp.{IsTotalOrder}
 use Rattle.std.specs.Ordering.{is_eq}
@@ -110,6 +110,12 @@ module _ (schema : Schema) {K V : Type 0} (form : TableForm K V) where
     pub outputs : (k : K) (v : V) (more r : Row)
         → output (update_by form) ((columns_in form k v ++ more) ∷ r ∷ []) ≡ ([], rowid r ∷ rowid r ∷ (map (column r) (places_from 1 form.key.width) ++ form.value.write v))
 
+  -- A table's form is that of its schema, and its key and value are written by these codecs.
+  pub record IsTableOf (key : Codec K) (value : Codec V) : Type 0 where
+    pub is_form : IsFormIn
+    pub keyed : form.key ≡ key
+    pub valued : form.value ≡ value
+
   -- ---- what a text does
 
   module _ (sql : List ℕ) where
@@ -130,13 +136,6 @@ module _ (schema : Schema) {K V : Type 0} (form : TableForm K V) where
     -- the text writes a row, and replaces the one with its key where there may be one
     abbrev pub IsPut : Type 0
     IsPut = IsReplaceOf 1 ⊎ IsInsertOf 1 ⊎ (IsChangeableIn × IsUpdate)
-
-    -- A table's form is that of its schema, its key and value are written by these codecs, and the text writes a row.
-    pub record IsTableOf (key : Codec K) (value : Codec V) : Type 0 where
-      pub is_form : IsFormIn
-      pub keyed : form.key ≡ key
-      pub valued : form.value ≡ value
-      pub puts : IsPut
 
     -- The query selects all columns of the rows that have the parameters at `places`, in the order of the columns at `order`.
     pub record IsSelect (places order : List ℕ) : Type 0 where

@@ -20,7 +20,8 @@ pub fn select_each<T: Found, S: Alter>(
 ) -> Result<Vec<(T::Key, T::Value)>, RowFault>
 where
     T::Key: Copy,
-    ensures frame { ReadsSettledOf T.schema (state S.Store conn.old) (state S.Store conn.new) result }
+    ensures frame { let new = state S.Store conn.new in
+        ReadsSettledOf T.schema (state S.Store conn.old) new result }
     ensures value { let old = state S.Store conn.old in
         let new = state S.Store conn.new in
         OfSettledOf T.schema old new (IfOk result (λ found. found.items
@@ -41,7 +42,8 @@ pub fn select_under_each<T: Under<A>, A: Columned, S: Alter>(
     alloc: Global,
     asked: &[A],
 ) -> Result<Vec<(T::Key, T::Value)>, RowFault>
-    ensures frame { ReadsSettledOf T.schema (state S.Store conn.old) (state S.Store conn.new) result }
+    ensures frame { let new = state S.Store conn.new in
+        ReadsSettledOf T.schema (state S.Store conn.old) new result }
     ensures value { let old = state S.Store conn.old in
         let new = state S.Store conn.new in
         OfSettledOf T.schema old new (IfOk result (λ found. found.items

@@ -1,11 +1,11 @@
 //! What is done with a table of an office, for any of them.
 
-ghost use Rattle.std.specs.Prelude.{◌≡◌, [], IfOk, OnOk, filter};
+ghost use Rattle.std.specs.Prelude.{◌≡◌, [], IfOk, filter};
 ghost use Rattle.std.specs.FinMap.{find};
 ghost use Rattle.sqlite.specs.Held.{state};
 ghost use Rattle.hh_devices.specs.DeviceChanges.{change};
 ghost use Rattle.hh_sqltables.specs.Forms.{IsOfficeOf, PutsAllIn, PutsAllOrLeavesIn, PutsIn, RemovesIn, rows_under_keys};
-ghost use Rattle.hh_sqltables.specs.Frames.{Inside, OfOfficeOf, ReadsOfficeOf, WritesInside};
+ghost use Rattle.hh_sqltables.specs.Frames.{Inside, MakesIn, OfOfficeOf, ReadsOfficeOf, WritesInside};
 ghost use Rattle.hh_sqltables.specs.Giving.{GivesEach};
 
 use crate::giving::{give_by, give_entries};
@@ -27,10 +27,8 @@ pub fn replace<T: OfficeTable, S: Alter>(
     value: &T::Value,
 ) -> Result<(), RowFault>
     ensures frame { WritesInside S.Store tx.old tx.new result }
-    ensures puts { let old = state S.Store tx.old.conn.now in
-        let new = state S.Store tx.new.conn.now in
-        Inside old new (IsOfficeOf T.schema old.now
-        → OnOk result (PutsIn T.schema T.form key.now value.now old.now new.now)) }
+    ensures puts { MakesIn T.schema S.Store tx.old tx.new result
+        (PutsIn T.schema T.form key.now value.now) }
 {
     write_entry(tx, alloc, T::put(), key, value)
 }
@@ -42,10 +40,8 @@ pub fn replace_all<T: OfficeTable, S: Alter>(
     rows: &[(T::Key, T::Value)],
 ) -> Result<(), RowFault>
     ensures frame { WritesInside S.Store tx.old tx.new result }
-    ensures puts { let old = state S.Store tx.old.conn.now in
-        let new = state S.Store tx.new.conn.now in
-        Inside old new (IsOfficeOf T.schema old.now
-        → OnOk result (PutsAllIn T.schema T.form rows.now old.now new.now)) }
+    ensures puts { MakesIn T.schema S.Store tx.old tx.new result
+        (PutsAllIn T.schema T.form rows.now) }
 {
     'rows: for row in rows {
         replace::<T, S>(tx, alloc, &row.0, &row.1)?;
@@ -81,10 +77,8 @@ pub fn insert_all<T: Grouped, S: Alter>(
     rows: &[(T::Key, T::Value)],
 ) -> Result<(), RowFault>
     ensures frame { WritesInside S.Store tx.old tx.new result }
-    ensures puts { let old = state S.Store tx.old.conn.now in
-        let new = state S.Store tx.new.conn.now in
-        Inside old new (IsOfficeOf T.schema old.now
-        → OnOk result (PutsAllIn T.schema T.form rows.now old.now new.now)) }
+    ensures puts { MakesIn T.schema S.Store tx.old tx.new result
+        (PutsAllIn T.schema T.form rows.now) }
 {
     'groups: for group in rows.chunks(GROUP) {
         insert_or_replace::<T, S>(tx, alloc, group)?;
@@ -99,10 +93,8 @@ fn insert_or_replace<T: Grouped, S: Alter>(
     rows: &[(T::Key, T::Value)],
 ) -> Result<(), RowFault>
     ensures frame { WritesInside S.Store tx.old tx.new result }
-    ensures puts { let old = state S.Store tx.old.conn.now in
-        let new = state S.Store tx.new.conn.now in
-        Inside old new (IsOfficeOf T.schema old.now
-        → OnOk result (PutsAllIn T.schema T.form rows.now old.now new.now)) }
+    ensures puts { MakesIn T.schema S.Store tx.old tx.new result
+        (PutsAllIn T.schema T.form rows.now) }
 {
     if insert_group::<T, S>(tx, alloc, rows)? {
         Ok(())
@@ -118,10 +110,8 @@ pub fn remove_under<T: Removed<A>, A: Columned, S: Alter>(
     asked: &A,
 ) -> Result<(), RowFault>
     ensures frame { WritesInside S.Store tx.old tx.new result }
-    ensures removes { let old = state S.Store tx.old.conn.now in
-        let new = state S.Store tx.new.conn.now in
-        Inside old new (IsOfficeOf T.schema old.now
-        → OnOk result (RemovesIn T.schema T.form (T.is_removed asked.now) old.now new.now)) }
+    ensures removes { MakesIn T.schema S.Store tx.old tx.new result
+        (RemovesIn T.schema T.form (T.is_removed asked.now)) }
 {
     execute_by(tx, alloc, T::removal(), asked)
 }
@@ -132,7 +122,8 @@ pub fn select<T: Found, S: Alter>(
     alloc: Global,
     key: &T::Key,
 ) -> Result<Option<T::Value>, RowFault>
-    ensures frame { ReadsOfficeOf T.schema (state S.Store conn.old) (state S.Store conn.new) result }
+    ensures frame { let new = state S.Store conn.new in
+        ReadsOfficeOf T.schema (state S.Store conn.old) new result }
     ensures value { let old = state S.Store conn.old in
         let new = state S.Store conn.new in
         OfOfficeOf T.schema old new (IfOk result (λ found.
@@ -146,7 +137,8 @@ pub fn select_all<T: Listed, S: Alter>(
     conn: &mut Connection<S>,
     alloc: Global,
 ) -> Result<Vec<(T::Key, T::Value)>, RowFault>
-    ensures frame { ReadsOfficeOf T.schema (state S.Store conn.old) (state S.Store conn.new) result }
+    ensures frame { let new = state S.Store conn.new in
+        ReadsOfficeOf T.schema (state S.Store conn.old) new result }
     ensures value { let old = state S.Store conn.old in
         let new = state S.Store conn.new in
         OfOfficeOf T.schema old new (IfOk result (λ found.
@@ -161,7 +153,8 @@ pub fn select_under<T: Under<A>, A: Columned, S: Alter>(
     alloc: Global,
     asked: &A,
 ) -> Result<Vec<(T::Key, T::Value)>, RowFault>
-    ensures frame { ReadsOfficeOf T.schema (state S.Store conn.old) (state S.Store conn.new) result }
+    ensures frame { let new = state S.Store conn.new in
+        ReadsOfficeOf T.schema (state S.Store conn.old) new result }
     ensures value { let old = state S.Store conn.old in
         let new = state S.Store conn.new in
         OfOfficeOf T.schema old new (IfOk result (λ found.
@@ -178,7 +171,8 @@ pub fn give_all<T: Listed, S: Alter, R: RowTaker<T::Key, T::Value>, O: Sink>(
     taker: &mut R,
     out: &mut O,
 ) -> Result<(), OutputFault>
-    ensures frame { ReadsOfficeOf T.schema (state S.Store conn.old) (state S.Store conn.new) result }
+    ensures frame { let new = state S.Store conn.new in
+        ReadsOfficeOf T.schema (state S.Store conn.old) new result }
     ensures gives { let old = state S.Store conn.old in
         let new = state S.Store conn.new in
         (begun : O) (report : R.Report)
@@ -198,7 +192,8 @@ pub fn give_under<T: Under<A>, A: Columned, S: Alter, R: RowTaker<T::Key, T::Val
     taker: &mut R,
     out: &mut O,
 ) -> Result<(), OutputFault>
-    ensures frame { ReadsOfficeOf T.schema (state S.Store conn.old) (state S.Store conn.new) result }
+    ensures frame { let new = state S.Store conn.new in
+        ReadsOfficeOf T.schema (state S.Store conn.old) new result }
     ensures gives { let old = state S.Store conn.old in
         let new = state S.Store conn.new in
         (begun : O) (report : R.Report)

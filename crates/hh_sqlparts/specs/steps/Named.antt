@@ -2,11 +2,11 @@
 use Rattle.std.specs.Prelude.{◌≡◌, ℕ, ℤ, List, [], ◌∷◌, true, Option, Some, None, option_map, filter, All}
 use Rattle.std.specs.BTreeMap.{is_at}
 use Rattle.std.specs.FinMap.{find}
-use Rattle.std.specs.List.{list_any}
+use Rattle.std.specs.List.{flat_map, list_any}
 use Rattle.std.specs.Option.{IfSome}
 use Rattle.std.specs.Ordering.{eq_by_cmp, is_eq, nat_cmp}
 use Rattle.std.specs.declared.cmp.Ordering.{Ordering}
-use Rattle.hh_tables.specs.Tables.{IsTable, Table}
+use Rattle.hh_tables.specs.Tables.{IsTable, Table, put_all}
 use Rattle.hh_names.specs.Accounts.{bytes_cmp}
 use Rattle.hh_names.specs.declared.values.Reading.{Reading}
 use Rattle.hh_names.specs.declared.values.Reallocation.{Reallocation}
@@ -68,6 +68,10 @@ abbrev pub IsAmong : {N : Type 0} → (N → N → Ordering) → (Row → Option
 IsAmong R name names r = IfSome (name r) (λ n. list_any (is_at (R n)) names ≡ true)
 
 -- ---- what is read by a name
+
+-- The part has what a table has under some names, and the name of each row is one of them.
+abbrev pub IsByNames : {K V N : Type 0} → (K → K → Ordering) → (N → N → Ordering) → (Row → Option N) → (N → List (K × V)) → List Row → Table K V → Type 0
+IsByNames {K} {V} {N} R C name_of selected rows part = (names : List N) × All (IsAmong C name_of names) rows × (part ≡ put_all R (flat_map selected names) [])
 
 -- the readings of a unit on a date
 abbrev pub readings_of : Table UnitPeriod Reading → UnitDate → Table UnitPeriod Reading

@@ -1,4 +1,4 @@
--- The orders of files and of the keys of runs, results, credits and postings are total, and two that they find equal are the same.
+-- The orders of files, of positions and of the keys of runs, results, credits and postings are total, and two that they find equal are the same.
 use Rattle.std.proofs.Common.{◌≡◌, ℕ, List, refl, ap, sym, ◌∙◌, Some, Ordering}
 use Rattle.std.specs.Prelude.{unwrap_or}
 use Rattle.std.specs.Cmp.{IsTotalOrder, nat_cmp_total, on_total, then_total}
@@ -18,6 +18,11 @@ use Rattle.hh_states.specs.Content.{credit_key_cmp, posting_key_cmp, result_key_
 use Rattle.hh_states.specs.PeriodSettlement.{UnitAccount, unit_account_cmp}
 use Rattle.hh_states.specs.Runs.{run_key_cmp}
 use Rattle.hh_states.specs.States.{file_key_cmp}
+use Rattle.hh_rows.specs.Keys.{settlement_period_cmp}
+use Rattle.hh_rows.specs.declared.settlement_period.SettlementPeriod.{SettlementPeriod}
+use Rattle.hh_rows.proofs.KeyLaws.{exact_settlement_periods, settlement_period_total}
+use Rattle.hh_keyed_rows.specs.Positions.{position_key_cmp}
+use Rattle.hh_sqlrows.specs.OfficeTables.{one_row_cmp}
 
 pub file_key_total : IsTotalOrder file_key_cmp
 file_key_total = then_total (on_total (λ k. kind_word k.kind) bytes_total) (on_total (λ k. k.name) bytes_total)
@@ -77,3 +82,16 @@ exact_credit_keys a b h =
 pub exact_posting_keys : CmpEqualImpliesEq posting_key_cmp
 exact_posting_keys a b h =
     ap (λ (p : RunKey × Account). record { run = p.0; account = p.1 }) (exact_pairs run_key_cmp account_cmp exact_run_keys exact_accounts (a.run, a.account) (b.run, b.account) h)
+
+pub one_row_total : IsTotalOrder one_row_cmp
+one_row_total = on_total (λ _. 0) nat_cmp_total
+
+pub exact_one_rows : CmpEqualImpliesEq one_row_cmp
+exact_one_rows a b h = refl
+
+pub position_key_total : IsTotalOrder position_key_cmp
+position_key_total = then_total (on_total (λ k. k.at) settlement_period_total) (on_total (λ k. k.account) account_total)
+
+pub exact_position_keys : CmpEqualImpliesEq position_key_cmp
+exact_position_keys a b h =
+    ap (λ (p : SettlementPeriod × Account). record { at = p.0; account = p.1 }) (exact_pairs settlement_period_cmp account_cmp exact_settlement_periods exact_accounts (a.at, a.account) (b.at, b.account) h)

@@ -3,8 +3,7 @@
 ghost use Rattle.std.specs.Ordering.{is_eq, nat_cmp};
 ghost use Rattle.hh_sqlrows.specs.OfficeSchema.{office};
 ghost use Rattle.hh_sqlrows.specs.OfficeTables.{contracts};
-ghost use Rattle.hh_sqlrows.specs.facts.TableFacts.{contracts_all, contracts_group, contracts_is, contracts_one, contracts_under};
-ghost use Rattle.hh_sqlrows.specs.declared.tables.contracts.TheConstants.{ALL, GROUP, ONE, PUT, UNDER};
+ghost use Rattle.hh_sqlrows.specs.facts.TableFacts.{contracts_is};
 
 use hh_num::Kwh;
 use hh_rows::ContractKey;
@@ -44,8 +43,7 @@ impl OfficeTable for Contracts {
 
     ghost form = { contracts };
 
-    ghost put = { PUT.now };
-
+    #[tactic(auto, using(crate::proofs::StatementFacts::contracts_put))]
     fn put() -> &'static str {
         PUT
     }
@@ -54,43 +52,31 @@ impl OfficeTable for Contracts {
 }
 
 impl Grouped for Contracts {
-    ghost group = { GROUP.now };
-
+    #[tactic(auto, using(crate::proofs::StatementFacts::contracts_group))]
     fn group() -> &'static str {
         GROUP
     }
-
-    ghost inserts = { contracts_group };
 }
 
 impl Found for Contracts {
-    ghost one = { ONE.now };
-
+    #[tactic(auto, using(crate::proofs::StatementFacts::contracts_one))]
     fn one() -> &'static str {
         ONE
     }
-
-    ghost finds = { contracts_one };
 }
 
 impl Listed for Contracts {
-    ghost all = { ALL.now };
-
+    #[tactic(auto, using(crate::proofs::StatementFacts::contracts_all))]
     fn all() -> &'static str {
         ALL
     }
-
-    ghost lists = { contracts_all };
 }
 
 impl Under<SettlementDate> for Contracts {
     ghost is_under = { λ date key. is_eq (nat_cmp key.at.date date) };
 
-    ghost under = { UNDER.now };
-
+    #[tactic(auto, using(crate::proofs::StatementFacts::contracts_under))]
     fn under() -> &'static str {
         UNDER
     }
-
-    ghost queries = { contracts_under };
 }

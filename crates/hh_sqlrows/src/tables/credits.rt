@@ -4,8 +4,7 @@ ghost use Rattle.std.specs.Ordering.{is_eq};
 ghost use Rattle.hh_keyed_rows.specs.Runs.{run_key_cmp};
 ghost use Rattle.hh_sqlrows.specs.OfficeSchema.{office};
 ghost use Rattle.hh_sqlrows.specs.OfficeTables.{credits};
-ghost use Rattle.hh_sqlrows.specs.facts.TableFacts.{credits_group, credits_is, credits_under};
-ghost use Rattle.hh_sqlrows.specs.declared.tables.credits.TheConstants.{GROUP, PUT, UNDER};
+ghost use Rattle.hh_sqlrows.specs.facts.TableFacts.{credits_is};
 
 use hh_keyed_rows::CreditKey;
 use hh_num::Ticks;
@@ -39,8 +38,7 @@ impl OfficeTable for Credits {
 
     ghost form = { credits };
 
-    ghost put = { PUT.now };
-
+    #[tactic(auto, using(crate::proofs::StatementFacts::credits_put))]
     fn put() -> &'static str {
         PUT
     }
@@ -49,23 +47,17 @@ impl OfficeTable for Credits {
 }
 
 impl Grouped for Credits {
-    ghost group = { GROUP.now };
-
+    #[tactic(auto, using(crate::proofs::StatementFacts::credits_group))]
     fn group() -> &'static str {
         GROUP
     }
-
-    ghost inserts = { credits_group };
 }
 
 impl Under<RunKey> for Credits {
     ghost is_under = { λ run key. is_eq (run_key_cmp key.run run) };
 
-    ghost under = { UNDER.now };
-
+    #[tactic(auto, using(crate::proofs::StatementFacts::credits_under))]
     fn under() -> &'static str {
         UNDER
     }
-
-    ghost queries = { credits_under };
 }

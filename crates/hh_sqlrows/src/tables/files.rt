@@ -2,8 +2,7 @@
 
 ghost use Rattle.hh_sqlrows.specs.OfficeSchema.{office};
 ghost use Rattle.hh_sqlrows.specs.OfficeTables.{files};
-ghost use Rattle.hh_sqlrows.specs.facts.TableFacts.{files_is, files_one};
-ghost use Rattle.hh_sqlrows.specs.declared.tables.files.TheConstants.{ONE, PUT};
+ghost use Rattle.hh_sqlrows.specs.facts.TableFacts.{files_is};
 
 use hh_keyed_rows::{FileKey, KeptFile};
 use hh_sqltables::{Found, OfficeTable};
@@ -29,8 +28,7 @@ impl OfficeTable for Files {
 
     ghost form = { files };
 
-    ghost put = { PUT.now };
-
+    #[tactic(auto, using(crate::proofs::StatementFacts::files_put))]
     fn put() -> &'static str {
         PUT
     }
@@ -39,11 +37,8 @@ impl OfficeTable for Files {
 }
 
 impl Found for Files {
-    ghost one = { ONE.now };
-
+    #[tactic(auto, using(crate::proofs::StatementFacts::files_one))]
     fn one() -> &'static str {
         ONE
     }
-
-    ghost finds = { files_one };
 }

@@ -2,8 +2,7 @@
 
 ghost use Rattle.hh_sqlrows.specs.OfficeSchema.{office};
 ghost use Rattle.hh_sqlrows.specs.OfficeTables.{marks};
-ghost use Rattle.hh_sqlrows.specs.facts.TableFacts.{marks_is, marks_one};
-ghost use Rattle.hh_sqlrows.specs.declared.tables.marks.TheConstants.{ONE, PUT};
+ghost use Rattle.hh_sqlrows.specs.facts.TableFacts.{marks_is};
 
 use hh_keyed_rows::OneRow;
 use hh_sqltables::{Found, OfficeTable};
@@ -27,8 +26,7 @@ impl OfficeTable for Marks {
 
     ghost form = { marks };
 
-    ghost put = { PUT.now };
-
+    #[tactic(auto, using(crate::proofs::StatementFacts::marks_put))]
     fn put() -> &'static str {
         PUT
     }
@@ -37,11 +35,8 @@ impl OfficeTable for Marks {
 }
 
 impl Found for Marks {
-    ghost one = { ONE.now };
-
+    #[tactic(auto, using(crate::proofs::StatementFacts::marks_one))]
     fn one() -> &'static str {
         ONE
     }
-
-    ghost finds = { marks_one };
 }

@@ -2,8 +2,7 @@
 
 ghost use Rattle.hh_sqlrows.specs.OfficeSchema.{office};
 ghost use Rattle.hh_sqlrows.specs.OfficeTables.{is_of_unit_on, meters};
-ghost use Rattle.hh_sqlrows.specs.facts.TableFacts.{meters_group, meters_is, meters_under};
-ghost use Rattle.hh_sqlrows.specs.declared.tables.meters.TheConstants.{GROUP, PUT, UNDER};
+ghost use Rattle.hh_sqlrows.specs.facts.TableFacts.{meters_is};
 
 use crate::unit_date::UnitDate;
 use hh_names::Reading;
@@ -37,8 +36,7 @@ impl OfficeTable for Meters {
 
     ghost form = { meters };
 
-    ghost put = { PUT.now };
-
+    #[tactic(auto, using(crate::proofs::StatementFacts::meters_put))]
     fn put() -> &'static str {
         PUT
     }
@@ -47,23 +45,17 @@ impl OfficeTable for Meters {
 }
 
 impl Grouped for Meters {
-    ghost group = { GROUP.now };
-
+    #[tactic(auto, using(crate::proofs::StatementFacts::meters_group))]
     fn group() -> &'static str {
         GROUP
     }
-
-    ghost inserts = { meters_group };
 }
 
 impl Under<UnitDate> for Meters {
     ghost is_under = { λ asked key. is_of_unit_on asked.unit asked.date key };
 
-    ghost under = { UNDER.now };
-
+    #[tactic(auto, using(crate::proofs::StatementFacts::meters_under))]
     fn under() -> &'static str {
         UNDER
     }
-
-    ghost queries = { meters_under };
 }

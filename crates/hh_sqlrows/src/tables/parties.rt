@@ -2,8 +2,7 @@
 
 ghost use Rattle.hh_sqlrows.specs.OfficeSchema.{office};
 ghost use Rattle.hh_sqlrows.specs.OfficeTables.{parties};
-ghost use Rattle.hh_sqlrows.specs.facts.TableFacts.{parties_all, parties_is, parties_one};
-ghost use Rattle.hh_sqlrows.specs.declared.tables.parties.TheConstants.{ALL, ONE, PUT};
+ghost use Rattle.hh_sqlrows.specs.facts.TableFacts.{parties_is};
 
 use hh_names::PartyId;
 use hh_rows::PartyRegistration;
@@ -32,8 +31,7 @@ impl OfficeTable for Parties {
 
     ghost form = { parties };
 
-    ghost put = { PUT.now };
-
+    #[tactic(auto, using(crate::proofs::StatementFacts::parties_put))]
     fn put() -> &'static str {
         PUT
     }
@@ -42,21 +40,15 @@ impl OfficeTable for Parties {
 }
 
 impl Found for Parties {
-    ghost one = { ONE.now };
-
+    #[tactic(auto, using(crate::proofs::StatementFacts::parties_one))]
     fn one() -> &'static str {
         ONE
     }
-
-    ghost finds = { parties_one };
 }
 
 impl Listed for Parties {
-    ghost all = { ALL.now };
-
+    #[tactic(auto, using(crate::proofs::StatementFacts::parties_all))]
     fn all() -> &'static str {
         ALL
     }
-
-    ghost lists = { parties_all };
 }

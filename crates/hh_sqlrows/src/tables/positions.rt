@@ -3,8 +3,7 @@
 ghost use Rattle.std.specs.Ordering.{is_eq, nat_cmp};
 ghost use Rattle.hh_sqlrows.specs.OfficeSchema.{office};
 ghost use Rattle.hh_sqlrows.specs.OfficeTables.{positions};
-ghost use Rattle.hh_sqlrows.specs.facts.TableFacts.{positions_all, positions_is, positions_one, positions_under};
-ghost use Rattle.hh_sqlrows.specs.declared.tables.positions.TheConstants.{ALL, ONE, PUT, UNDER};
+ghost use Rattle.hh_sqlrows.specs.facts.TableFacts.{positions_is};
 
 use hh_keyed_rows::{Position, PositionKey};
 use hh_sqltables::{Found, Listed, OfficeTable, Under};
@@ -37,8 +36,7 @@ impl OfficeTable for Positions {
 
     ghost form = { positions };
 
-    ghost put = { PUT.now };
-
+    #[tactic(auto, using(crate::proofs::StatementFacts::positions_put))]
     fn put() -> &'static str {
         PUT
     }
@@ -47,33 +45,24 @@ impl OfficeTable for Positions {
 }
 
 impl Found for Positions {
-    ghost one = { ONE.now };
-
+    #[tactic(auto, using(crate::proofs::StatementFacts::positions_one))]
     fn one() -> &'static str {
         ONE
     }
-
-    ghost finds = { positions_one };
 }
 
 impl Listed for Positions {
-    ghost all = { ALL.now };
-
+    #[tactic(auto, using(crate::proofs::StatementFacts::positions_all))]
     fn all() -> &'static str {
         ALL
     }
-
-    ghost lists = { positions_all };
 }
 
 impl Under<SettlementDate> for Positions {
     ghost is_under = { λ date key. is_eq (nat_cmp key.at.date date) };
 
-    ghost under = { UNDER.now };
-
+    #[tactic(auto, using(crate::proofs::StatementFacts::positions_under))]
     fn under() -> &'static str {
         UNDER
     }
-
-    ghost queries = { positions_under };
 }

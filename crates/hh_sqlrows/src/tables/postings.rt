@@ -2,8 +2,7 @@
 
 ghost use Rattle.hh_sqlrows.specs.OfficeSchema.{office};
 ghost use Rattle.hh_sqlrows.specs.OfficeTables.{postings};
-ghost use Rattle.hh_sqlrows.specs.facts.TableFacts.{postings_all, postings_is};
-ghost use Rattle.hh_sqlrows.specs.declared.tables.postings.TheConstants.{ALL, PUT};
+ghost use Rattle.hh_sqlrows.specs.facts.TableFacts.{postings_is};
 
 use hh_keyed_rows::PostingKey;
 use hh_num::Pence;
@@ -30,8 +29,7 @@ impl OfficeTable for Postings {
 
     ghost form = { postings };
 
-    ghost put = { PUT.now };
-
+    #[tactic(auto, using(crate::proofs::StatementFacts::postings_put))]
     fn put() -> &'static str {
         PUT
     }
@@ -40,11 +38,8 @@ impl OfficeTable for Postings {
 }
 
 impl Listed for Postings {
-    ghost all = { ALL.now };
-
+    #[tactic(auto, using(crate::proofs::StatementFacts::postings_all))]
     fn all() -> &'static str {
         ALL
     }
-
-    ghost lists = { postings_all };
 }

@@ -3,8 +3,7 @@
 ghost use Rattle.std.specs.Ordering.{is_eq, nat_cmp};
 ghost use Rattle.hh_sqlrows.specs.OfficeSchema.{office};
 ghost use Rattle.hh_sqlrows.specs.OfficeTables.{period_prices};
-ghost use Rattle.hh_sqlrows.specs.facts.TableFacts.{period_prices_is, period_prices_under};
-ghost use Rattle.hh_sqlrows.specs.declared.tables.prices.TheConstants.{PUT, UNDER};
+ghost use Rattle.hh_sqlrows.specs.facts.TableFacts.{period_prices_is};
 
 use hh_num::Price;
 use hh_rows::SettlementPeriod;
@@ -30,8 +29,7 @@ impl OfficeTable for Prices {
 
     ghost form = { period_prices };
 
-    ghost put = { PUT.now };
-
+    #[tactic(auto, using(crate::proofs::StatementFacts::period_prices_put))]
     fn put() -> &'static str {
         PUT
     }
@@ -42,11 +40,8 @@ impl OfficeTable for Prices {
 impl Under<SettlementDate> for Prices {
     ghost is_under = { λ date key. is_eq (nat_cmp key.date date) };
 
-    ghost under = { UNDER.now };
-
+    #[tactic(auto, using(crate::proofs::StatementFacts::period_prices_under))]
     fn under() -> &'static str {
         UNDER
     }
-
-    ghost queries = { period_prices_under };
 }

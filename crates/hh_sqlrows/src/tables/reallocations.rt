@@ -4,8 +4,7 @@ ghost use Rattle.std.specs.Ordering.{is_eq};
 ghost use Rattle.hh_names.specs.Accounts.{bytes_cmp};
 ghost use Rattle.hh_sqlrows.specs.OfficeSchema.{office};
 ghost use Rattle.hh_sqlrows.specs.OfficeTables.{reallocations};
-ghost use Rattle.hh_sqlrows.specs.facts.TableFacts.{reallocations_is, reallocations_under};
-ghost use Rattle.hh_sqlrows.specs.declared.tables.reallocations.TheConstants.{PUT, UNDER};
+ghost use Rattle.hh_sqlrows.specs.facts.TableFacts.{reallocations_is};
 
 use hh_names::{Reallocation, UnitId};
 use hh_rows::ReallocationKey;
@@ -32,8 +31,7 @@ impl OfficeTable for Reallocations {
 
     ghost form = { reallocations };
 
-    ghost put = { PUT.now };
-
+    #[tactic(auto, using(crate::proofs::StatementFacts::reallocations_put))]
     fn put() -> &'static str {
         PUT
     }
@@ -44,11 +42,8 @@ impl OfficeTable for Reallocations {
 impl Under<UnitId> for Reallocations {
     ghost is_under = { λ unit key. is_eq (bytes_cmp key.unit_period.unit unit) };
 
-    ghost under = { UNDER.now };
-
+    #[tactic(auto, using(crate::proofs::StatementFacts::reallocations_under))]
     fn under() -> &'static str {
         UNDER
     }
-
-    ghost queries = { reallocations_under };
 }

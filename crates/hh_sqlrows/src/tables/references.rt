@@ -2,8 +2,7 @@
 
 ghost use Rattle.hh_sqlrows.specs.OfficeSchema.{office};
 ghost use Rattle.hh_sqlrows.specs.OfficeTables.{references};
-ghost use Rattle.hh_sqlrows.specs.facts.TableFacts.{references_all, references_is, references_one};
-ghost use Rattle.hh_sqlrows.specs.declared.tables.references.TheConstants.{ALL, ONE, PUT};
+ghost use Rattle.hh_sqlrows.specs.facts.TableFacts.{references_is};
 
 use hh_names::{Counterparties, Reference};
 use hh_sqltables::{Found, Listed, OfficeTable};
@@ -32,8 +31,7 @@ impl OfficeTable for References {
 
     ghost form = { references };
 
-    ghost put = { PUT.now };
-
+    #[tactic(auto, using(crate::proofs::StatementFacts::references_put))]
     fn put() -> &'static str {
         PUT
     }
@@ -42,21 +40,15 @@ impl OfficeTable for References {
 }
 
 impl Found for References {
-    ghost one = { ONE.now };
-
+    #[tactic(auto, using(crate::proofs::StatementFacts::references_one))]
     fn one() -> &'static str {
         ONE
     }
-
-    ghost finds = { references_one };
 }
 
 impl Listed for References {
-    ghost all = { ALL.now };
-
+    #[tactic(auto, using(crate::proofs::StatementFacts::references_all))]
     fn all() -> &'static str {
         ALL
     }
-
-    ghost lists = { references_all };
 }

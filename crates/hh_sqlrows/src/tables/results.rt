@@ -4,8 +4,7 @@ ghost use Rattle.std.specs.Ordering.{is_eq};
 ghost use Rattle.hh_keyed_rows.specs.Runs.{run_key_cmp};
 ghost use Rattle.hh_sqlrows.specs.OfficeSchema.{office};
 ghost use Rattle.hh_sqlrows.specs.OfficeTables.{results};
-ghost use Rattle.hh_sqlrows.specs.facts.TableFacts.{results_group, results_is, results_under};
-ghost use Rattle.hh_sqlrows.specs.declared.tables.results.TheConstants.{GROUP, PUT, UNDER};
+ghost use Rattle.hh_sqlrows.specs.facts.TableFacts.{results_is};
 
 use hh_keyed_rows::{AccountAmounts, ResultKey};
 use hh_runs::RunKey;
@@ -40,8 +39,7 @@ impl OfficeTable for Results {
 
     ghost form = { results };
 
-    ghost put = { PUT.now };
-
+    #[tactic(auto, using(crate::proofs::StatementFacts::results_put))]
     fn put() -> &'static str {
         PUT
     }
@@ -50,23 +48,17 @@ impl OfficeTable for Results {
 }
 
 impl Grouped for Results {
-    ghost group = { GROUP.now };
-
+    #[tactic(auto, using(crate::proofs::StatementFacts::results_group))]
     fn group() -> &'static str {
         GROUP
     }
-
-    ghost inserts = { results_group };
 }
 
 impl Under<RunKey> for Results {
     ghost is_under = { λ run key. is_eq (run_key_cmp key.run run) };
 
-    ghost under = { UNDER.now };
-
+    #[tactic(auto, using(crate::proofs::StatementFacts::results_under))]
     fn under() -> &'static str {
         UNDER
     }
-
-    ghost queries = { results_under };
 }

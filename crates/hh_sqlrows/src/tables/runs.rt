@@ -3,8 +3,7 @@
 ghost use Rattle.std.specs.Ordering.{is_eq, nat_cmp};
 ghost use Rattle.hh_sqlrows.specs.OfficeSchema.{office};
 ghost use Rattle.hh_sqlrows.specs.OfficeTables.{runs};
-ghost use Rattle.hh_sqlrows.specs.facts.TableFacts.{runs_all, runs_is, runs_under};
-ghost use Rattle.hh_sqlrows.specs.declared.tables.runs.TheConstants.{ALL, PUT, UNDER};
+ghost use Rattle.hh_sqlrows.specs.facts.TableFacts.{runs_is};
 
 use hh_runs::{RunKey, Summary};
 use hh_sqltables::{Listed, OfficeTable, Under};
@@ -34,8 +33,7 @@ impl OfficeTable for Runs {
 
     ghost form = { runs };
 
-    ghost put = { PUT.now };
-
+    #[tactic(auto, using(crate::proofs::StatementFacts::runs_put))]
     fn put() -> &'static str {
         PUT
     }
@@ -44,23 +42,17 @@ impl OfficeTable for Runs {
 }
 
 impl Listed for Runs {
-    ghost all = { ALL.now };
-
+    #[tactic(auto, using(crate::proofs::StatementFacts::runs_all))]
     fn all() -> &'static str {
         ALL
     }
-
-    ghost lists = { runs_all };
 }
 
 impl Under<SettlementDate> for Runs {
     ghost is_under = { λ date key. is_eq (nat_cmp key.date date) };
 
-    ghost under = { UNDER.now };
-
+    #[tactic(auto, using(crate::proofs::StatementFacts::runs_under))]
     fn under() -> &'static str {
         UNDER
     }
-
-    ghost queries = { runs_under };
 }

@@ -2,8 +2,7 @@
 
 ghost use Rattle.hh_sqlrows.specs.OfficeSchema.{office};
 ghost use Rattle.hh_sqlrows.specs.OfficeTables.{settings};
-ghost use Rattle.hh_sqlrows.specs.facts.TableFacts.{settings_is, settings_one};
-ghost use Rattle.hh_sqlrows.specs.declared.tables.settings.TheConstants.{ONE, PUT};
+ghost use Rattle.hh_sqlrows.specs.facts.TableFacts.{settings_is};
 
 use hh_keyed_rows::OneRow;
 use hh_rows::Settings;
@@ -30,8 +29,7 @@ impl OfficeTable for SettingsTable {
 
     ghost form = { settings };
 
-    ghost put = { PUT.now };
-
+    #[tactic(auto, using(crate::proofs::StatementFacts::settings_put))]
     fn put() -> &'static str {
         PUT
     }
@@ -40,11 +38,8 @@ impl OfficeTable for SettingsTable {
 }
 
 impl Found for SettingsTable {
-    ghost one = { ONE.now };
-
+    #[tactic(auto, using(crate::proofs::StatementFacts::settings_one))]
     fn one() -> &'static str {
         ONE
     }
-
-    ghost finds = { settings_one };
 }

@@ -4,8 +4,7 @@ ghost use Rattle.std.specs.Prelude.{◌==◌};
 ghost use Rattle.std.specs.Ordering.{is_eq, nat_cmp};
 ghost use Rattle.hh_sqlrows.specs.OfficeSchema.{office};
 ghost use Rattle.hh_sqlrows.specs.OfficeTables.{touched};
-ghost use Rattle.hh_sqlrows.specs.facts.TableFacts.{touched_all, touched_is, touched_removal, touched_under};
-ghost use Rattle.hh_sqlrows.specs.declared.tables.touched.TheConstants.{ALL, PUT, REMOVAL, UNDER};
+ghost use Rattle.hh_sqlrows.specs.facts.TableFacts.{touched_is};
 
 use hh_keyed_rows::NoColumns;
 use hh_rows::SettlementPeriod;
@@ -35,8 +34,7 @@ impl OfficeTable for Touched {
 
     ghost form = { touched };
 
-    ghost put = { PUT.now };
-
+    #[tactic(auto, using(crate::proofs::StatementFacts::touched_put))]
     fn put() -> &'static str {
         PUT
     }
@@ -45,35 +43,26 @@ impl OfficeTable for Touched {
 }
 
 impl Listed for Touched {
-    ghost all = { ALL.now };
-
+    #[tactic(auto, using(crate::proofs::StatementFacts::touched_all))]
     fn all() -> &'static str {
         ALL
     }
-
-    ghost lists = { touched_all };
 }
 
 impl Under<SettlementDate> for Touched {
     ghost is_under = { λ date key. is_eq (nat_cmp key.date date) };
 
-    ghost under = { UNDER.now };
-
+    #[tactic(auto, using(crate::proofs::StatementFacts::touched_under))]
     fn under() -> &'static str {
         UNDER
     }
-
-    ghost queries = { touched_under };
 }
 
 impl Removed<SettlementDate> for Touched {
     ghost is_removed = { λ date key. key.date == date };
 
-    ghost removal = { REMOVAL.now };
-
+    #[tactic(auto, using(crate::proofs::StatementFacts::touched_removal))]
     fn removal() -> &'static str {
         REMOVAL
     }
-
-    ghost removes = { touched_removal };
 }

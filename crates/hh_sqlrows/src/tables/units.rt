@@ -2,8 +2,7 @@
 
 ghost use Rattle.hh_sqlrows.specs.OfficeSchema.{office};
 ghost use Rattle.hh_sqlrows.specs.OfficeTables.{units};
-ghost use Rattle.hh_sqlrows.specs.facts.TableFacts.{units_all, units_is, units_one};
-ghost use Rattle.hh_sqlrows.specs.declared.tables.units.TheConstants.{ALL, ONE, PUT};
+ghost use Rattle.hh_sqlrows.specs.facts.TableFacts.{units_is};
 
 use hh_names::UnitId;
 use hh_rows::UnitRegistration;
@@ -33,8 +32,7 @@ impl OfficeTable for Units {
 
     ghost form = { units };
 
-    ghost put = { PUT.now };
-
+    #[tactic(auto, using(crate::proofs::StatementFacts::units_put))]
     fn put() -> &'static str {
         PUT
     }
@@ -43,21 +41,15 @@ impl OfficeTable for Units {
 }
 
 impl Found for Units {
-    ghost one = { ONE.now };
-
+    #[tactic(auto, using(crate::proofs::StatementFacts::units_one))]
     fn one() -> &'static str {
         ONE
     }
-
-    ghost finds = { units_one };
 }
 
 impl Listed for Units {
-    ghost all = { ALL.now };
-
+    #[tactic(auto, using(crate::proofs::StatementFacts::units_all))]
     fn all() -> &'static str {
         ALL
     }
-
-    ghost lists = { units_all };
 }

@@ -11,14 +11,7 @@ use Rattle.hh_sqlrows.specs.Office.{IsOffice}
 use Rattle.hh_sqlchanges.specs.Writes.{StoresLoad, StoresRun}
 use Rattle.hh_sqlparts.specs.steps.Readings.{SelectsOnly}
 use Rattle.hh_sqlrows.specs.Leaving.{MayStand}
-
--- The connection was open and is open. Everything is committed. If the database was an office's and everything was committed, it was
--- changed as `Change` says.
-pub record IsChangedBy (Change : Database → Database → Type 0) (old new : State) : Type 0 where
-  pub was_open : IsTrue old.is_open
-  pub is_open : IsTrue new.is_open
-  pub settled : new.now ≡ new.committed
-  pub changed : IsOffice old.now → Change old.now new.now
+pub use Rattle.hh_sqlrows.specs.steps.Changed.{IsChangedBy}
 
 -- a load is written, and what is kept beside the content is changed for it
 abbrev pub KeepsLoad : LoadChangeView → Database → Database → Type 0

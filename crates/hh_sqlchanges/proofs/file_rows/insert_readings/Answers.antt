@@ -4,7 +4,8 @@ use Rattle.sqlite.specs.Held.{state}
 use Rattle.hh_names.specs.declared.values.Reading.{Reading}
 use Rattle.hh_rows.specs.declared.keys.UnitPeriod.{UnitPeriod}
 use Rattle.hh_rules.specs.Entries.{meter_entry}
-use Rattle.hh_sqlrows.specs.steps.Forms.{PutsAllOrLeaves}
+use Rattle.hh_sqlrows.specs.OfficeSchema.{office}
+use Rattle.hh_sqlrows.specs.steps.Forms.{PutsAllOrLeavesIn}
 use Rattle.hh_sqlrows.specs.OfficeTables.{meters}
 use Rattle.hh_sqlchanges.proofs.GroupLaws.{readings_put_or_not}
 use Rattle.hh_sqlchanges.proofs.file_rows.insert_readings.Goals as goal
@@ -17,4 +18,4 @@ returns-then-len-rows-clause-writes g c clean inside is =
     let same : entries ≡ filter_map meter_entry c.args.rows.now = c.as_slice.ensures.value ∙ c.in_ok-readings.ensures in
     let all : length (filter_map meter_entry c.args.rows.now) ≡ length c.args.rows.now = ap length (sym c.in_ok-readings.ensures) ∙ omega (arith, c.if-len-rows.true, c.len.ensures) in
     readings_put_or_not old.now new.now c.args.rows.now all c.insert_group.result
-    (subst (λ (es : List (UnitPeriod × Reading)). IfOk c.insert_group.result (PutsAllOrLeaves meters es old.now new.now)) same (c.insert_group.ensures.puts clean inside is))
+    (subst (λ (es : List (UnitPeriod × Reading)). IfOk c.insert_group.result (PutsAllOrLeavesIn office meters es old.now new.now)) same (c.insert_group.ensures.puts clean inside is))

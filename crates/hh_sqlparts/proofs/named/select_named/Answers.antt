@@ -1,10 +1,10 @@
-use Rattle.std.proofs.Common.{◌≡◌}
+use Rattle.std.proofs.Common.{◌≡◌, refl}
 use Rattle.sqlite.specs.Effect.{Database}
 use Rattle.sqlite.specs.Held.{state}
 use Rattle.hh_tables.proofs.MergeLaws.{true_from}
 use Rattle.hh_names.specs.Accounts.{bytes_cmp}
 use Rattle.hh_rows.specs.Keys.{contract_key_cmp, settlement_period_cmp, unit_period_cmp}
-use Rattle.hh_rows.proofs.KeyLaws.{reallocation_key_total}
+use Rattle.hh_rows.proofs.KeyLaws.{reallocation_key_total, settlement_period_total, unit_period_total}
 use Rattle.hh_sqlrows.specs.Contents.{registered_of}
 use Rattle.hh_sqlrows.specs.Forms.{rows_under_keys}
 use Rattle.hh_sqlrows.specs.OfficeSchema.{office}
@@ -13,6 +13,7 @@ use Rattle.hh_sqlrows.proofs.FrameLaws.{reads_as, reads_failed, reads_then}
 use Rattle.hh_sqlparts.specs.steps.Named.{FindsNamed, HasReallocated, price_key_of, reading_key_of, reference_of, volume_key_of}
 use Rattle.hh_sqlparts.proofs.NamedForms.{rows_rise}
 use Rattle.hh_sqlparts.proofs.NamedParts.{judges_by_names}
+use Rattle.hh_sqlparts.proofs.NamedTables.{contracts_named, meters_named, prices_named, reallocations_named, references_named}
 use Rattle.hh_sqlparts.proofs.ReadingLaws.{only, found_both, reading_then}
 use Rattle.hh_sqlparts.proofs.named.select_named.Goals as goal
 
@@ -22,11 +23,11 @@ returns-clause-value g c stands office settled =
     let s0 = state g.S.Store c.args.conn.now in
     let s1 = state g.S.Store c.all_parties.new.conn in
     let s2 = state g.S.Store c.all_units.new.conn in
-    let s3 = state g.S.Store c.select_references_named.new.conn in
-    let s4 = state g.S.Store c.select_meters_named.new.conn in
-    let s5 = state g.S.Store c.select_prices_named.new.conn in
-    let s6 = state g.S.Store c.select_contracts_named.new.conn in
-    let s7 = state g.S.Store c.select_reallocations_named.new.conn in
+    let s3 = state g.S.Store c.rows_named.new.conn in
+    let s4 = state g.S.Store c.rows_under_named.new.conn in
+    let s5 = state g.S.Store c.rows_under_named-2.new.conn in
+    let s6 = state g.S.Store c.rows_named-2.new.conn in
+    let s7 = state g.S.Store c.rows_under_named-3.new.conn in
     let parties = c.in_ok-parties.ensures in
     let units = c.in_ok-units.ensures in
     let references = c.in_ok-references.ensures in
@@ -46,10 +47,15 @@ returns-clause-value g c stands office settled =
     let r4 = reading_then s3 s4 s7 (only _ _ _ meters.frame) r5 in
     let r3 = reading_then s2 s3 s7 (only _ _ _ references.frame) r4 in
     let r2 = reading_then s1 s2 s7 (only _ _ _ units.frame) r3 in
-    let f6 = found_both s5 s6 s7 (only _ _ _ contracts.frame) (only _ _ _ reallocations.frame) P6 P7 contracts.value reallocations.value in
-    let f5 = found_both s4 s5 s7 (only _ _ _ prices.frame) r6 P5 (λ db. P6 db × P7 db) prices.value f6 in
-    let f4 = found_both s3 s4 s7 (only _ _ _ meters.frame) r5 P4 (λ db. P5 db × (P6 db × P7 db)) meters.value f5 in
-    let f3 = found_both s2 s3 s7 (only _ _ _ references.frame) r4 P3 (λ db. P4 db × (P5 db × (P6 db × P7 db))) references.value f4 in
+    let f6 = found_both s5 s6 s7 (only _ _ _ contracts.frame) (only _ _ _ reallocations.frame) P6 P7
+    (λ stands office settled. let e = contracts.value stands office settled in contracts_named rows _ e.0 e.1 _ _ refl e.2)
+    (λ stands office settled. let e = reallocations.value stands office settled in reallocations_named rows _ (rows_rise tables.reallocations reallocation_key_total s6.now.trees) e.0 e.1 _ _ refl e.2) in
+    let f5 = found_both s4 s5 s7 (only _ _ _ prices.frame) r6 P5 (λ db. P6 db × P7 db)
+    (λ stands office settled. let e = prices.value stands office settled in prices_named rows _ (rows_rise tables.period_prices settlement_period_total s4.now.trees) e.0 e.1 _ _ refl e.2) f6 in
+    let f4 = found_both s3 s4 s7 (only _ _ _ meters.frame) r5 P4 (λ db. P5 db × (P6 db × P7 db))
+    (λ stands office settled. let e = meters.value stands office settled in meters_named rows _ (rows_rise tables.meters unit_period_total s3.now.trees) e.0 e.1 _ _ refl e.2) f5 in
+    let f3 = found_both s2 s3 s7 (only _ _ _ references.frame) r4 P3 (λ db. P4 db × (P5 db × (P6 db × P7 db)))
+    (λ stands office settled. let e = references.value stands office settled in references_named rows _ e.0 e.1 _ _ refl e.2) f4 in
     let f2 = found_both s1 s2 s7 (only _ _ _ units.frame) r3 P2 (λ db. P3 db × (P4 db × (P5 db × (P6 db × P7 db)))) (λ stands office _. units.value stands office) f3 in
     let f1 = found_both s0 s1 s7 (only _ _ _ parties.frame) r2 P1 (λ db. P2 db × (P3 db × (P4 db × (P5 db × (P6 db × P7 db))))) (λ stands office _. parties.value stands office) f2 in
     let all = f1 stands office settled in
@@ -61,18 +67,18 @@ returns-in_err-reallocations-clause-frame g c =
     let s0 = state g.S.Store c.args.conn.now in
     let s1 = state g.S.Store c.all_parties.new.conn in
     let s2 = state g.S.Store c.all_units.new.conn in
-    let s3 = state g.S.Store c.select_references_named.new.conn in
-    let s4 = state g.S.Store c.select_meters_named.new.conn in
-    let s5 = state g.S.Store c.select_prices_named.new.conn in
-    let s6 = state g.S.Store c.select_contracts_named.new.conn in
-    let s7 = state g.S.Store c.select_reallocations_named.new.conn in
+    let s3 = state g.S.Store c.rows_named.new.conn in
+    let s4 = state g.S.Store c.rows_under_named.new.conn in
+    let s5 = state g.S.Store c.rows_under_named-2.new.conn in
+    let s6 = state g.S.Store c.rows_named-2.new.conn in
+    let s7 = state g.S.Store c.rows_under_named-3.new.conn in
     let r1 = c.in_ok-parties.ensures.frame in
     let r2 = reads_then office s0 s1 s2 _ _ r1 c.in_ok-units.ensures.frame in
     let r3 = reads_then office s0 s2 s3 _ _ r2 c.in_ok-references.ensures.frame in
     let r4 = reads_then office s0 s3 s4 _ _ r3 c.in_ok-meters.ensures.frame in
     let r5 = reads_then office s0 s4 s5 _ _ r4 c.in_ok-prices.ensures.frame in
     let r6 = reads_then office s0 s5 s6 _ _ r5 c.in_ok-contracts.ensures.frame in
-    let r7 = reads_then office s0 s6 s7 _ _ r6 c.select_reallocations_named.ensures.frame in
+    let r7 = reads_then office s0 s6 s7 _ _ r6 c.rows_under_named-3.ensures.frame in
     reads_failed _ s0 s7 _ _ c.from_residual-in_err-reallocations.ensures.1 r7
 
 pub returns-clause-frame : goal.returns-clause-frame
@@ -80,11 +86,11 @@ returns-clause-frame g c =
     let s0 = state g.S.Store c.args.conn.now in
     let s1 = state g.S.Store c.all_parties.new.conn in
     let s2 = state g.S.Store c.all_units.new.conn in
-    let s3 = state g.S.Store c.select_references_named.new.conn in
-    let s4 = state g.S.Store c.select_meters_named.new.conn in
-    let s5 = state g.S.Store c.select_prices_named.new.conn in
-    let s6 = state g.S.Store c.select_contracts_named.new.conn in
-    let s7 = state g.S.Store c.select_reallocations_named.new.conn in
+    let s3 = state g.S.Store c.rows_named.new.conn in
+    let s4 = state g.S.Store c.rows_under_named.new.conn in
+    let s5 = state g.S.Store c.rows_under_named-2.new.conn in
+    let s6 = state g.S.Store c.rows_named-2.new.conn in
+    let s7 = state g.S.Store c.rows_under_named-3.new.conn in
     let r1 = c.in_ok-parties.ensures.frame in
     let r2 = reads_then office s0 s1 s2 _ _ r1 c.in_ok-units.ensures.frame in
     let r3 = reads_then office s0 s2 s3 _ _ r2 c.in_ok-references.ensures.frame in

@@ -1,5 +1,6 @@
 use Rattle.sqlite.specs.Held.{state}
-use Rattle.hh_sqlstore.proofs.KeepingLaws.{may_keep_after, no_more}
+use Rattle.hh_sqlrows.proofs.BecomingLaws.{may_become_after, no_more}
+use Rattle.hh_sqlschema.specs.TakenOver.{KeepsBeside}
 use Rattle.hh_sqlstore.proofs.adopting.take_over.Goals as goal
 
 pub returns-clause-crash : goal.returns-clause-crash
@@ -8,5 +9,5 @@ returns-clause-crash g c =
     let mid = state g.S.Store c.settings_of_office.new.connection in
     let new = state g.S.Store c.see_positions_kept.new.connection in
     let read = c.in_ok-settings.ensures in
-    may_keep_after old mid new (no_more old mid read.crash) (λ stands clean. let up = read.stays clean in (up, (read.left up).2)) c.see_positions_kept.ensures.honest
+    may_become_after KeepsBeside old mid new (no_more old mid read.crash) (λ stands clean. let up = read.stays clean in (up, (read.left up).2)) c.see_positions_kept.ensures.honest
     c.see_positions_kept.ensures.crash

@@ -3,11 +3,11 @@ use Rattle.std.proofs.lemmas.Result.{on_ok_weaker}
 use Rattle.sqlite.specs.Effect.{Database}
 use Rattle.sqlite.specs.Held.{state}
 use Rattle.hh_sqlrows.specs.Office.{IsOffice}
+use Rattle.hh_sqlrows.proofs.BecomingLaws.{may_become_made}
 use Rattle.hh_sqlchanges.specs.Writes.{WritesBesideAnew}
 use Rattle.hh_sqlschema.specs.TakenOver.{KeepsBeside}
 use Rattle.hh_sqlparts.proofs.ReadingLaws.{only}
 use Rattle.hh_sqlstore.proofs.BesideLaws.{kept_beside}
-use Rattle.hh_sqlstore.proofs.KeepingLaws.{may_keep_made}
 use Rattle.hh_sqlstore.proofs.keeping.keep_positions.Goals as goal
 
 pub returns-clause-kept : goal.returns-clause-kept
@@ -40,7 +40,7 @@ returns-clause-crash g c =
     let found = c.in_ok-beside.beside in
     let reading = (only _ _ _ c.in_ok-beside.ensures.frame) in
     let safe = c.in_ok-beside.ensures.frame in
-    may_keep_made old mid new
+    may_become_made KeepsBeside old mid new
     (λ stands. safe.crash stands (c.requires.office stands, c.requires.settled stands))
     (λ stands clean. let up = safe.stays stands clean in (up, (reading.left up (c.requires.office stands) (c.requires.settled stands)).1))
     c.commit_beside.ensures.honest (WritesBesideAnew found.positions.items found.touched.items mid.now)

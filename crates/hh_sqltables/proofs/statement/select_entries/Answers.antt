@@ -1,4 +1,4 @@
-use Rattle.std.proofs.Common.{◌≡◌, IfOk, List, Some, inl, map, refl, rules, subst}
+use Rattle.std.proofs.Common.{◌≡◌, IfOk, List, Some, inl, map, rules, subst}
 use Rattle.sqlite_value.specs.Order.{Row}
 use Rattle.sqlite.specs.Held.{state}
 use Rattle.hh_keyed_rows.specs.KeyedRows.{entry_in}

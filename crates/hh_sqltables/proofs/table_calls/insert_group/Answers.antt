@@ -16,6 +16,6 @@ returns-then-rows-eq-GROUP-clause-puts g c clean inside is =
     let old = state g.S.Store c.args.tx.now.conn.now in
     let new = state g.S.Store c.try_entries.new.tx.conn.now in
     let r = c.try_entries.result in
-    inserts_or_leaves_by table.schema table.form laws.is_table.is_form rows old new is g.T.Grouped.group 8 (omega (arith, c.if-rows-eq-GROUP.true)) g.met.T.Grouped.inserts r
-    (by_form (λ key value text. OnOk r (AllByRecursion (Fits key value) rows)) _ _ _ _ _ _ laws.is_table.keyed laws.is_table.valued c.group.ensures c.try_entries.ensures.fit)
-    (by_form (λ key value text. IfOk r (ExecutesOrLeaves text (flat_map (columns_of key value) rows) old new)) _ _ _ _ _ _ laws.is_table.keyed laws.is_table.valued c.group.ensures (c.try_entries.ensures.writes clean inside))
+    inserts_or_leaves_by table.schema table.form laws.is_table.is_form rows old new is _ 8 (omega (arith, c.if-rows-eq-GROUP.true)) c.group.ensures r
+    (by_form (λ key value. OnOk r (AllByRecursion (Fits key value) rows)) _ _ _ _ laws.is_table.keyed laws.is_table.valued c.try_entries.ensures.fit)
+    (by_form (λ key value. IfOk r (ExecutesOrLeaves c.group.result.now (flat_map (columns_of key value) rows) old new)) _ _ _ _ laws.is_table.keyed laws.is_table.valued (c.try_entries.ensures.writes clean inside))

@@ -1,6 +1,4 @@
-use Rattle.std.proofs.Common.{ℕ, Ok, OnOk, subst}
 use Rattle.sqlite.specs.Held.{state}
-use Rattle.sqlite.specs.State.{ExecutesInside}
 use Rattle.hh_sqltables.proofs.DeleteLaws.{removes_by}
 use Rattle.hh_sqltables.proofs.table_calls.remove_under.Goals as goal
 
@@ -10,7 +8,7 @@ returns-clause-removes g c clean inside is =
     let codec = g.A.Columned.codec in
     let old = state g.S.Store c.args.tx.now.conn.now in
     let new = state g.S.Store c.execute_by.new.tx.conn.now in
-    let removal = g.met.T.Removed.removes in
-    removes_by g.T.OfficeTable.schema g.T.OfficeTable.form g.met.T.OfficeTable.is_table.is_form removal.places g.T.Removed.removal removal.deletes (codec.write asked) (g.T.Removed.is_removed asked)
+    let removal = c.removal.ensures in
+    removes_by g.T.OfficeTable.schema g.T.OfficeTable.form g.met.T.OfficeTable.is_table.is_form removal.places _ removal.deletes (codec.write asked) (g.T.Removed.is_removed asked)
     (removal.tested asked) old new is c.execute_by.result
-    (subst (λ text. OnOk c.execute_by.result ((count : ℕ) × ExecutesInside 0 text (codec.write asked) old new (Ok count))) c.removal.ensures (c.execute_by.ensures.executes clean inside))
+    (c.execute_by.ensures.executes clean inside)

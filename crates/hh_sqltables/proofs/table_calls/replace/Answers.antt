@@ -14,6 +14,6 @@ returns-clause-puts g c clean inside is =
     let old = state g.S.Store c.args.tx.now.conn.now in
     let new = state g.S.Store c.write_entry.new.tx.conn.now in
     let r = c.write_entry.result in
-    put_by table.schema table.form laws.is_table.is_form k v old new is table.put laws.is_table.puts r
-    (by_form (λ key value text. OnOk r ((key.fits k ≡ true) × (value.fits v ≡ true))) _ _ _ _ _ _ laws.is_table.keyed laws.is_table.valued c.put.ensures c.write_entry.ensures.fits)
-    (by_form (λ key value text. OnOk r ((count : ℕ) × ExecutesInside 0 text (key.write k ++ value.write v) old new (Ok count))) _ _ _ _ _ _ laws.is_table.keyed laws.is_table.valued c.put.ensures (c.write_entry.ensures.writes clean inside))
+    put_by table.schema table.form laws.is_table.is_form k v old new is _ c.put.ensures r
+    (by_form (λ key value. OnOk r ((key.fits k ≡ true) × (value.fits v ≡ true))) _ _ _ _ laws.is_table.keyed laws.is_table.valued c.write_entry.ensures.fits)
+    (by_form (λ key value. OnOk r ((count : ℕ) × ExecutesInside 0 c.put.result.now (key.write k ++ value.write v) old new (Ok count))) _ _ _ _ laws.is_table.keyed laws.is_table.valued (c.write_entry.ensures.writes clean inside))

@@ -1,17 +1,14 @@
 -- The columns of keys compare as the keys do.
-use Rattle.std.proofs.Common.{◌∙◌, pos, ap, refl}
+use Rattle.std.proofs.Common.{◌∙◌, pos, refl}
 use Rattle.std.specs.Cmp.{IsTotalOrder, nat_cmp_total, on_total, then_total}
 use Rattle.std.specs.Ordering.{nat_cmp, on}
 use Rattle.std.proofs.lemmas.Map.Lookups.{CmpEqualImpliesEq, exact_bytes, exact_pairs, exact_unsigned}
 use Rattle.sqlite_value.proofs.OrderLemmas.{value_cmp-Int, value_cmp-Text}
-use Rattle.hh_names.specs.declared.account.Account.{Account}
 use Rattle.hh_names.specs.Accounts.{account_cmp, bytes_cmp, side_cmp, side_number}
-use Rattle.hh_names.proofs.AccountLaws.{account_total, bytes_total, exact_accounts}
+use Rattle.hh_names.proofs.AccountLaws.{bytes_total}
 use Rattle.hh_rows.specs.Keys.{contract_key_cmp, reallocation_key_cmp, settlement_period_cmp, unit_period_cmp}
 use Rattle.hh_rows.specs.Kinds.{kind_word}
 use Rattle.hh_rows.specs.declared.keys.ReallocationKey.{ReallocationKey}
-use Rattle.hh_rows.specs.declared.settlement_period.SettlementPeriod.{SettlementPeriod}
-use Rattle.hh_rows.proofs.KeyLaws.{exact_settlement_periods, settlement_period_total}
 use Rattle.hh_runs.specs.RunKinds.{run_kind_cmp, run_kind_number}
 use Rattle.hh_keyed_rows.specs.Content.{credit_key_cmp, posting_key_cmp, result_key_cmp}
 use Rattle.hh_keyed_rows.specs.Runs.{run_key_cmp}
@@ -22,19 +19,14 @@ use Rattle.hh_keyed_rows.specs.Keys.{contract_key_columns, credit_key_columns, f
 use Rattle.hh_keyed_rows.specs.Positions.{position_key_cmp}
 use Rattle.hh_keyed_rows.proofs.CodecLaws.{both_codec, via_codec}
 use Rattle.hh_keyed_rows.proofs.FieldLaws.{account_codec, date_codec, file_kind_codec, period_codec, settlement_period_codec, word_codec}
-use Rattle.hh_keyed_rows.proofs.KeyCodecs.{run_key_codec, unit_period_codec}
 use Rattle.hh_keyed_rows.proofs.PlaceLaws.{int_cmp-nats}
 use Rattle.hh_sqlrows.specs.OfficeTables.{one_row_cmp, unit_date_cmp}
 use Rattle.hh_sqltables.proofs.WhereLaws.{both_ordered, one_ordered}
 use Rattle.hh_sqltables.specs.Texts.{IsOrdered}
-
--- ---- orders
-
-pub one_row_total : IsTotalOrder one_row_cmp
-one_row_total = on_total (λ _. 0) nat_cmp_total
-
-pub exact_one_rows : CmpEqualImpliesEq one_row_cmp
-exact_one_rows a b h = refl
+use Rattle.std.specs.declared.cmp.Ordering.{Ordering}
+use Rattle.hh_keyed_rows.proofs.KeyCodecs.{run_key_codec, unit_codec, unit_period_codec}
+use Rattle.hh_sqlrows.specs.UnitDates.{unit_date_columns}
+use Rattle.hh_sqlrows.specs.declared.unit_date.UnitDate.{UnitDate}
 
 pub one_row_ordered : IsOrdered one_row_column one_row_cmp
 one_row_ordered a b = one_ordered _ _ ∙ value_cmp-Int (pos 1) (pos 1) ∙ int_cmp-nats 1 1
@@ -96,15 +88,6 @@ credit_key_ordered a b =
     (both_ordered period_column (both unit_column account_columns) nat_cmp _ period_codec nat_ordered (both_ordered unit_column account_columns bytes_cmp account_cmp (word_codec _ _ _) text_ordered account_ordered))
     (a.run, (a.period, (a.unit, a.account))) (b.run, (b.period, (b.unit, b.account)))
 
--- ---- positions
-
-pub position_key_total : IsTotalOrder position_key_cmp
-position_key_total = then_total (on_total (λ k. k.at) settlement_period_total) (on_total (λ k. k.account) account_total)
-
-pub exact_position_keys : CmpEqualImpliesEq position_key_cmp
-exact_position_keys a b h =
-    ap (λ (p : SettlementPeriod × Account). record { at = p.0; account = p.1 }) (exact_pairs settlement_period_cmp account_cmp exact_settlement_periods exact_accounts (a.at, a.account) (b.at, b.account) h)
-
 pub position_key_ordered : IsOrdered position_key_columns position_key_cmp
 position_key_ordered a b = both_ordered settlement_period_columns account_columns settlement_period_cmp account_cmp settlement_period_codec settlement_period_ordered account_ordered (a.at, a.account) (b.at, b.account)
 
@@ -115,3 +98,15 @@ unit_date_total = then_total (on_total (λ p. p.0) bytes_total) (on_total (λ p.
 
 pub exact_unit_dates : CmpEqualImpliesEq unit_date_cmp
 exact_unit_dates = exact_pairs bytes_cmp nat_cmp exact_bytes exact_unsigned
+
+pub unit_date_codec : IsCodec unit_date_columns
+unit_date_codec = via_codec _ _ (λ u. refl) (λ p. refl) _ (both_codec _ _ unit_codec date_codec)
+
+abbrev pub asked_unit_cmp : UnitDate → UnitDate → Ordering
+asked_unit_cmp = on (λ u. (u.unit, u.date)) unit_date_cmp
+
+pub asked_unit_total : IsTotalOrder asked_unit_cmp
+asked_unit_total = on_total (λ (u : UnitDate). (u.unit, u.date)) unit_date_total
+
+pub exact_asked_units : CmpEqualImpliesEq asked_unit_cmp
+exact_asked_units a b tied = let same = exact_unit_dates (a.unit, a.date) (b.unit, b.date) tied in λ i. record { unit = (same i).0; date = (same i).1 }

@@ -5,7 +5,7 @@ use Rattle.hh_keyed_rows.specs.Keys.{contract_key_columns, credit_key_columns, f
 use Rattle.hh_keyed_rows.proofs.FieldLaws.{settlement_period_codec}
 use Rattle.hh_keyed_rows.proofs.KeyCodecs.{contract_key_codec, credit_key_codec, file_key_codec, one_row_codec, party_codec, position_key_codec, posting_key_codec, reference_codec, result_key_codec, run_key_codec, unit_codec, unit_period_codec}
 use Rattle.hh_sqlrows.specs.OfficeTables.{contracts, credits, files, marks, meters, parties, period_prices, positions, postings, reallocations, references, results, runs, settings, touched, units}
-use Rattle.hh_sqlrows.specs.facts.ColumnLaws.{contract_key_ordered, credit_key_ordered, file_key_ordered, one_row_ordered, position_key_ordered, posting_key_ordered, reallocation_order, reallocation_order_codec, reallocation_ordered, result_key_ordered, run_key_ordered, settlement_period_ordered, text_ordered, unit_period_ordered}
+use Rattle.hh_sqlrows.proofs.ColumnLaws.{contract_key_ordered, credit_key_ordered, file_key_ordered, one_row_ordered, position_key_ordered, posting_key_ordered, reallocation_order, reallocation_order_codec, reallocation_ordered, result_key_ordered, run_key_ordered, settlement_period_ordered, text_ordered, unit_period_ordered}
 use Rattle.hh_sqltables.specs.Texts.{IsOrderBy}
 
 pub settings_by : IsOrderBy settings (1 ∷ [])
