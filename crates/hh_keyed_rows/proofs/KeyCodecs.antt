@@ -8,8 +8,8 @@ use Rattle.sqlite_value.specs.Order.{Row}
 use Rattle.hh_keyed_rows.specs.declared.no_columns.NoColumns.{NoColumns}
 use Rattle.hh_keyed_rows.specs.Codecs.{IsCodec}
 use Rattle.hh_keyed_rows.specs.Fields.{access_key_column, file_name_column, party_column, quantity_column, reference_column, unit_column}
-use Rattle.hh_keyed_rows.specs.Keys.{contract_key_columns, credit_key_columns, file_key_columns, one_row_column, position_key_columns, posting_key_columns, reallocation_key_columns, result_key_columns, run_key_columns, unit_period_columns}
-use Rattle.hh_keyed_rows.specs.Values.{most_of_8_bits, most_of_16_bits, most_of_32_bits, amounts_columns, file_columns, no_columns, party_columns, position_columns, position_from, position_numbers, reading_columns, reallocation_columns, settings_columns, settings_columns_of, summary_columns, unit_columns, version}
+use Rattle.hh_keyed_rows.specs.Keys.{contract_key_columns, credit_key_columns, file_key_columns, lead_key_columns, one_row_column, position_key_columns, posting_key_columns, reallocation_key_columns, result_key_columns, run_key_columns, unit_period_columns}
+use Rattle.hh_keyed_rows.specs.Values.{most_of_8_bits, most_of_16_bits, most_of_32_bits, amounts_columns, file_columns, lead_term_columns, no_columns, party_columns, position_columns, position_from, position_numbers, reading_columns, reallocation_columns, settings_columns, settings_columns_of, summary_columns, unit_columns, version}
 use Rattle.hh_keyed_rows.proofs.CodecLaws.{blob_codec, both_codec, coded_codec, none_is_not_some, same_some, via_codec}
 use Rattle.hh_keyed_rows.proofs.FieldLaws.{account_codec, date_codec, file_kind_codec, lead_minutes_codec, mark_codec, number_codec, only_number_codec, operator_key_codec, period_codec, range_codec, run_kind_codec, settlement_period_codec, units_codec, word_codec}
 
@@ -40,6 +40,9 @@ one_row_codec = via_codec _ _ (λ k. refl) (λ p. refl) _ (only_number_codec 1)
 
 pub unit_period_codec : IsCodec unit_period_columns
 unit_period_codec = via_codec _ _ (λ k. refl) (λ p. refl) _ (both_codec _ _ unit_codec settlement_period_codec)
+
+pub lead_key_codec : IsCodec lead_key_columns
+lead_key_codec = via_codec _ _ (λ k. refl) (λ p. refl) _ (both_codec _ _ unit_codec date_codec)
 
 pub contract_key_codec : IsCodec contract_key_columns
 contract_key_codec = via_codec _ _ (λ k. refl) (λ p. refl) _ (both_codec _ _ reference_codec settlement_period_codec)
@@ -73,6 +76,9 @@ registered_party_codec = via_codec _ _ (λ r. refl) (λ p. refl) _ (both_codec _
 
 pub registered_unit_codec : IsCodec unit_columns
 registered_unit_codec = via_codec _ _ (λ r. refl) (λ p. refl) _ (both_codec _ _ account_codec (both_codec _ _ mark_codec range_codec))
+
+pub lead_term_codec : IsCodec lead_term_columns
+lead_term_codec = via_codec _ _ (λ t. refl) (λ p. refl) _ (both_codec _ _ account_codec date_codec)
 
 pub reading_codec : IsCodec reading_columns
 reading_codec = via_codec _ _ (λ r. refl) (λ p. refl) _ (both_codec _ _ (quantity_codec volumes) (both_codec _ _ (quantity_codec multipliers) (quantity_codec volumes)))

@@ -1,5 +1,6 @@
 -- The columns of the keys of tables, in the order in which the tables have them.
 use Rattle.hh_rows.specs.declared.keys.ContractKey.{ContractKey}
+use Rattle.hh_rows.specs.declared.keys.LeadKey.{LeadKey}
 use Rattle.hh_rows.specs.declared.keys.ReallocationKey.{ReallocationKey}
 use Rattle.hh_rows.specs.declared.keys.UnitPeriod.{UnitPeriod}
 use Rattle.hh_store.specs.positions.PositionKey.{PositionKey}
@@ -19,6 +20,10 @@ one_row_column = via (λ _. record {}) (λ _. tt) (only_number 1)
 -- unit, date, period
 abbrev pub unit_period_columns : Codec UnitPeriod
 unit_period_columns = via (λ p. record { unit = p.0; at = p.1 }) (λ k. (k.unit, k.at)) (both unit_column settlement_period_columns)
+
+-- unit, first date
+abbrev pub lead_key_columns : Codec LeadKey
+lead_key_columns = via (λ p. record { unit = p.0; from = p.1 }) (λ k. (k.unit, k.from)) (both unit_column date_column)
 
 -- reference, date, period
 abbrev pub contract_key_columns : Codec ContractKey

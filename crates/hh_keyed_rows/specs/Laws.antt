@@ -20,9 +20,9 @@ use Rattle.sqlite_trees.specs.declared.store.Shape.TheVariants as shape
 use Rattle.hh_keyed_rows.specs.Codecs.{Codec, IsCodec, blob_column, places_from}
 use Rattle.hh_keyed_rows.specs.Fields.{account_columns, counterparties_columns, date_column, file_kind_column, lead_minutes_column, mark_column, number_column, operator_key_column, period_column, quantity_column, range_columns, run_kind_column, settlement_period_columns, side_column, word_column}
 use Rattle.hh_keyed_rows.specs.KeyedRows.{columns_of, entry_in, stored_entry, table_in}
-use Rattle.hh_keyed_rows.specs.Keys.{contract_key_columns, credit_key_columns, file_key_columns, one_row_column, position_key_columns, posting_key_columns, reallocation_key_columns, result_key_columns, run_key_columns, unit_period_columns}
+use Rattle.hh_keyed_rows.specs.Keys.{contract_key_columns, credit_key_columns, file_key_columns, lead_key_columns, one_row_column, position_key_columns, posting_key_columns, reallocation_key_columns, result_key_columns, run_key_columns, unit_period_columns}
 use Rattle.hh_keyed_rows.specs.Puts.{PutsRow}
-use Rattle.hh_keyed_rows.specs.Values.{amounts_columns, file_columns, no_columns, party_columns, position_columns, reading_columns, reallocation_columns, settings_columns_of, summary_columns, unit_columns}
+use Rattle.hh_keyed_rows.specs.Values.{amounts_columns, file_columns, lead_term_columns, no_columns, party_columns, position_columns, reading_columns, reallocation_columns, settings_columns_of, summary_columns, unit_columns}
 
 -- ---- columns are codecs
 
@@ -47,6 +47,7 @@ pub record AreKeyCodecs : Type 0 where
   pub accounts : IsCodec account_columns
   pub settlement_periods : IsCodec settlement_period_columns
   pub unit_periods : IsCodec unit_period_columns
+  pub leads : IsCodec lead_key_columns
   pub contracts : IsCodec contract_key_columns
   pub reallocations : IsCodec reallocation_key_columns
   pub files : IsCodec file_key_columns
@@ -62,6 +63,7 @@ pub record AreValueCodecs : Type 0 where
   pub ranges : IsCodec range_columns
   pub parties : IsCodec party_columns
   pub units : IsCodec unit_columns
+  pub leads : IsCodec lead_term_columns
   pub counterparties : IsCodec counterparties_columns
   pub readings : IsCodec reading_columns
   pub reallocations : IsCodec reallocation_columns

@@ -4,6 +4,7 @@ use Rattle.hh_num.specs.Quantities.{amounts_of_cash, energies, multipliers, net_
 use Rattle.hh_names.specs.declared.account.Account.{Account}
 use Rattle.hh_names.specs.declared.values.Reading.{Reading}
 use Rattle.hh_names.specs.declared.values.Reallocation.{Reallocation}
+use Rattle.hh_rows.specs.declared.rows.LeadTerm.{LeadTerm}
 use Rattle.hh_rows.specs.declared.rows.PartyRegistration.{PartyRegistration}
 use Rattle.hh_rows.specs.declared.rows.UnitRegistration.{UnitRegistration}
 use Rattle.hh_rows.specs.declared.settings.Settings.{Settings}
@@ -15,7 +16,7 @@ use Rattle.hh_store.specs.States.{KeptFileView}
 use Rattle.hh_keyed_rows.specs.declared.amounts.AccountAmounts.{AccountAmounts}
 use Rattle.hh_keyed_rows.specs.declared.no_columns.NoColumns.{NoColumns}
 use Rattle.hh_keyed_rows.specs.Codecs.{Codec, blob_column, both, coded, via}
-use Rattle.hh_keyed_rows.specs.Fields.{access_key_column, account_columns, lead_minutes_column, mark_column, number_column, only_number, operator_key_column, quantity_column, range_columns}
+use Rattle.hh_keyed_rows.specs.Fields.{access_key_column, account_columns, date_column, lead_minutes_column, mark_column, number_column, only_number, operator_key_column, quantity_column, range_columns}
 
 -- the greatest numbers of 8, 16 and 32 bits
 abbrev pub most_of_8_bits : ℕ
@@ -36,6 +37,10 @@ abbrev pub unit_columns : Codec UnitRegistration
 unit_columns =
     via (λ p. record { lead = p.0; interconnector = p.1.0; range = p.1.1 }) (λ r. (r.lead, (r.interconnector, r.range)))
     (both account_columns (both mark_column range_columns))
+
+-- party and side of the lead account, last date
+abbrev pub lead_term_columns : Codec LeadTerm
+lead_term_columns = via (λ p. record { lead = p.0; to = p.1 }) (λ t. (t.lead, t.to)) (both account_columns date_column)
 
 -- metered volume, loss multiplier, balancing volume
 abbrev pub reading_columns : Codec Reading

@@ -1,13 +1,13 @@
 //! Keys of tables as columns.
 
 ghost use Rattle.std.specs.Prelude.{◌≡◌};
-ghost use Rattle.hh_keyed_rows.specs.Keys.{contract_key_columns, credit_key_columns, file_key_columns, position_key_columns, posting_key_columns, reallocation_key_columns, result_key_columns, run_key_columns, unit_period_columns};
+ghost use Rattle.hh_keyed_rows.specs.Keys.{contract_key_columns, credit_key_columns, file_key_columns, lead_key_columns, position_key_columns, posting_key_columns, reallocation_key_columns, result_key_columns, run_key_columns, unit_period_columns};
 
 use crate::columned::Columned;
 use crate::columns::Columns;
 use crate::row_fault::RowFault;
 use hh_names::{Account, FileName, PeriodNumber, Reference, UnitId};
-use hh_rows::{ContractKey, FileKind, ReallocationKey, SettlementPeriod, UnitPeriod};
+use hh_rows::{ContractKey, FileKind, LeadKey, ReallocationKey, SettlementPeriod, UnitPeriod};
 use hh_runs::{RunKey, RunKind};
 use hh_store::{CreditKey, FileKey, PositionKey, PostingKey, ResultKey};
 use hh_time::SettlementDate;
@@ -26,6 +26,21 @@ impl Columned for UnitPeriod {
         let unit = UnitId::from_columns(columns)?;
         let at = SettlementPeriod::from_columns(columns)?;
         Ok(UnitPeriod { unit, at })
+    }
+}
+
+impl Columned for LeadKey {
+    ghost codec = { lead_key_columns };
+
+    fn to_columns<'a>(&'a self, columns: &mut Vec<ValueRef<'a>>) -> Result<(), AllocError> {
+        self.unit.to_columns(columns)?;
+        self.from.to_columns(columns)
+    }
+
+    fn from_columns(columns: &mut Columns<'_>) -> Result<LeadKey, RowFault> {
+        let unit = UnitId::from_columns(columns)?;
+        let from = SettlementDate::from_columns(columns)?;
+        Ok(LeadKey { unit, from })
     }
 }
 

@@ -19,6 +19,7 @@ mod laws;
 mod no_columns;
 mod one_row;
 mod row_fault;
+mod settings;
 mod values;
 
 pub use amounts::AccountAmounts;
@@ -35,3 +36,4 @@ pub use laws::{
 pub use no_columns::NoColumns;
 pub use one_row::OneRow;
 pub use row_fault::RowFault;
+pub use settings::NumberedSettings;

@@ -1,22 +1,20 @@
 //! Values of tables as columns.
 
 ghost use Rattle.std.specs.Prelude.{◌≡◌};
-ghost use Rattle.hh_keyed_rows.specs.Values.{amounts_columns, file_columns, party_columns, position_columns, reading_columns, reallocation_columns, settings_columns, summary_columns, unit_columns};
+ghost use Rattle.hh_keyed_rows.specs.Values.{amounts_columns, file_columns, lead_term_columns, party_columns, position_columns, reading_columns, reallocation_columns, summary_columns, unit_columns};
 
 use crate::amounts::AccountAmounts;
 use crate::columned::Columned;
 use crate::columns::{Columns, push_column};
 use crate::row_fault::RowFault;
-use hh_names::{AccessKey, Account, OperatorKey, Reading, Reallocation};
+use hh_names::{AccessKey, Account, Reading, Reallocation};
 use hh_num::{Kwh, NetKwh, Pence, Percent, Ticks, Tlm};
-use hh_rows::{DateRange, LeadMinutes, PartyRegistration, Settings, UnitRegistration};
+use hh_rows::{DateRange, LeadTerm, PartyRegistration, UnitRegistration};
 use hh_runs::Summary;
 use hh_store::{KeptFile, Position};
+use hh_time::SettlementDate;
 use sqlite::types::ValueRef;
 use std::alloc::AllocError;
-
-/// The version of the tables.
-const VERSION: u8 = 1;
 
 impl Columned for PartyRegistration {
     ghost codec = { party_columns };
@@ -51,6 +49,21 @@ impl Columned for UnitRegistration {
             interconnector,
             range,
         })
+    }
+}
+
+impl Columned for LeadTerm {
+    ghost codec = { lead_term_columns };
+
+    fn to_columns<'a>(&'a self, columns: &mut Vec<ValueRef<'a>>) -> Result<(), AllocError> {
+        self.lead.to_columns(columns)?;
+        self.to.to_columns(columns)
+    }
+
+    fn from_columns(columns: &mut Columns<'_>) -> Result<LeadTerm, RowFault> {
+        let lead = Account::from_columns(columns)?;
+        let to = SettlementDate::from_columns(columns)?;
+        Ok(LeadTerm { lead, to })
     }
 }
 
@@ -158,28 +171,6 @@ impl Columned for KeptFile {
         let applied = u32::from_columns(columns)?;
         let late = u32::from_columns(columns)?;
         Ok(KeptFile::new(body, applied, late))
-    }
-}
-
-impl Columned for Settings {
-    ghost codec = { settings_columns };
-
-    fn to_columns<'a>(&'a self, columns: &mut Vec<ValueRef<'a>>) -> Result<(), AllocError> {
-        push_column(columns, ValueRef::Int(i64::from(VERSION)))?;
-        self.lead_minutes.to_columns(columns)?;
-        self.operator_key.to_columns(columns)
-    }
-
-    fn from_columns(columns: &mut Columns<'_>) -> Result<Settings, RowFault> {
-        if columns.next_natural()? != u64::from(VERSION) {
-            return Err(RowFault::Store);
-        }
-        let lead_minutes = LeadMinutes::from_columns(columns)?;
-        let operator_key = OperatorKey::from_columns(columns)?;
-        Ok(Settings {
-            lead_minutes,
-            operator_key,
-        })
     }
 }
 

@@ -28,7 +28,7 @@ use Rattle.hh_rows.specs.declared.rows.Row.TheVariants as row
 use Rattle.hh_rows.specs.declared.rows.UnitRegistration.{UnitRegistration}
 use Rattle.hh_rows.specs.declared.rows.UnitRow.{UnitRow}
 use Rattle.hh_registrations.specs.declared.unit_change.FormerLead.TheVariants as former
-use Rattle.hh_registrations.specs.Registrations.{Lead, Leads, RegistrationsView, beside_former, former_lead, last_registration, registration_on, unless_ended, widened, with_unit_row}
+use Rattle.hh_registrations.specs.Registrations.{Lead, Leads, RegistrationsView, beside_former, former_lead, last_registration, lead_of, one_lead_each, registration_on, unless_ended, widened, with_unit_row}
 use Rattle.hh_registrations.proofs.KeyLaws.{at}
 use Rattle.hh_rules.specs.declared.timing.Timing.{Timing}
 use Rattle.hh_rules.specs.Entries.{unit_entry}
@@ -37,11 +37,11 @@ use Rattle.hh_rules.specs.Lateness.{Timetable, Accepted, accepted_at, comes_in_t
 use Rattle.hh_rules.specs.Refusals.{is_party_off, is_same_mark, is_some_that, is_unit_moved, is_unit_off, most_units, passes_hundred, registered_party, whole_standing}
 use Rattle.hh_rules.proofs.HistoryLaws.{entries_of-append}
 use Rattle.hh_successions.specs.RegistrationHistory.{IsAcceptedBy, no_rows, one_more, refusal_by, registered_with_units, registrations_in, registrations_with}
-use Rattle.hh_successions.specs.SuccessionRefusals.{is_shrunk, is_subsidiary_put_first, is_to_lead_of, is_unit_moved_by_leads, last_lead, lead_of, reallocation_refusals_by_leads, refusals_by_leads, unit_refusals_by_leads}
+use Rattle.hh_successions.specs.SuccessionRefusals.{is_shrunk, is_subsidiary_put_first, is_to_lead_of, is_unit_moved_by_leads, last_lead, reallocation_refusals_by_leads, refusals_by_leads, unit_refusals_by_leads}
 use Rattle.hh_successions.proofs.LeadLaws.{IsKept, first_is, last_holds, last_known, lead_key, lead_term, with_registration}
 use Rattle.hh_successions.proofs.LookBackLaws.{AreKeptIn, NoneMet, accepted_kept, none_met, not_passed, row_by_row}
 use Rattle.hh_successions.proofs.RowFacts.{earlier_is, holds_parts}
-use Rattle.hh_old_versions.specs.OldVersions.{HistoriesOfVersionOne, KeptByVersionOne, SameRefusals, is_lead_refusal, one_lead_each, reallocation_refusals_of_version_one, rule_of_version_one, unit_refusals_of_version_one}
+use Rattle.hh_old_versions.specs.OldVersions.{HistoriesOfVersionOne, KeptByVersionOne, SameRefusals, is_lead_refusal, reallocation_refusals_of_version_one, rule_of_version_one, unit_refusals_of_version_one}
 
 -- ---- one registration for each unit, as units are put
 

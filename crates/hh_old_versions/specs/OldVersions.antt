@@ -1,8 +1,8 @@
 -- What older versions of the office did otherwise. In version 1 a unit had one lead account on all its dates: a row that gave a known
 -- unit another lead account or mark was refused with 40, and one whose range wasn't as wide with 39.
-use Rattle.std.specs.Prelude.{◌≡◌, nat_le, List, [], ◌∷◌, map, Bool, true, false, not, ◌&&◌, ◌||◌, ℕ, Some, is_none}
+use Rattle.std.specs.Prelude.{◌≡◌, nat_le, List, [], ◌∷◌, Bool, true, false, not, ◌&&◌, ◌||◌, ℕ, Some, is_none}
 use Rattle.std.specs.FinMap.{find}
-use Rattle.hh_tables.specs.Tables.{Table, table_of_last}
+use Rattle.hh_tables.specs.Tables.{table_of_last}
 use Rattle.hh_names.specs.declared.fault.Refusal.{Refusal}
 use Rattle.hh_names.specs.declared.fault.Refusal.TheVariants as refusal
 use Rattle.hh_names.specs.Accounts.{bytes_cmp, is_same_account}
@@ -11,14 +11,14 @@ use Rattle.hh_rows.specs.declared.rows.ReallocationRow.{ReallocationRow}
 use Rattle.hh_rows.specs.declared.rows.Row.TheVariants as row
 use Rattle.hh_rows.specs.declared.rows.UnitRegistration.{UnitRegistration}
 use Rattle.hh_rows.specs.declared.rows.UnitRow.{UnitRow}
-use Rattle.hh_registrations.specs.Registrations.{Leads, registered_lead_on}
+use Rattle.hh_registrations.specs.Registrations.{one_lead_each, registered_lead_on}
 use Rattle.hh_rules.specs.declared.timing.Timing.{Timing}
 use Rattle.hh_rules.specs.Entries.{unit_entry}
 use Rattle.hh_rules.specs.History.{History, entries_of}
 use Rattle.hh_rules.specs.Lateness.{Timetable, Accepted, comes_in_time, lacks_period}
 use Rattle.hh_rules.specs.Refusals.{Standing, contract_refusals, is_party_off, is_some_that, is_unit_moved, is_unit_off, meter_refusals, most_units, party_refusals, passes_hundred, price_refusals, registered_party, registered_unit, whole_standing}
 use Rattle.hh_successions.specs.RegistrationHistory.{IsAcceptedBy, refusal_by, registrations_in}
-use Rattle.hh_successions.specs.SuccessionRefusals.{RowRule, lead_of, refusals_by_leads}
+use Rattle.hh_successions.specs.SuccessionRefusals.{RowRule, refusals_by_leads}
 
 -- ---- why version 1 refused a row
 
@@ -59,10 +59,6 @@ rule_of_version_one tables leads timing (row.Contract r) = contract_refusals (wh
 rule_of_version_one tables leads timing (row.Reallocation r) = reallocation_refusals_of_version_one (whole_standing tables) timing r
 
 -- ---- what version 1 kept of units
-
--- one registration for each unit, which begins and ends with it and has its lead account
-abbrev pub one_lead_each : Table (List ℕ) UnitRegistration → Leads
-one_lead_each units = map (λ e. lead_of e.0 e.1) units
 
 -- What version 1 kept, in its own words: what is registered of a unit is the unit's last row; each unit has one registration; and the
 -- account of the row leads the unit on each of its dates.

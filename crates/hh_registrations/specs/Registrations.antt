@@ -1,5 +1,5 @@
 -- The registrations of units: which account leads a unit from which date to which, and what a row of units makes of them.
-use Rattle.std.specs.Prelude.{ℕ, ◌-◌, nat_le, nat_lt, List, [], filter, Bool, not, ◌&&◌, Option, Some, None, option_map, if◌then◌else◌}
+use Rattle.std.specs.Prelude.{ℕ, ◌-◌, nat_le, nat_lt, List, [], filter, map, Bool, not, ◌&&◌, Option, Some, None, option_map, if◌then◌else◌}
 use Rattle.std.specs.FinMap.{find, put}
 use Rattle.std.specs.Ordering.{eq_by_cmp}
 use Rattle.hh_tables.specs.Ends.{last_of}
@@ -28,6 +28,14 @@ Leads = Table LeadKey LeadTerm
 pub record RegistrationsView : Type 0 where
   pub units : Table (List ℕ) UnitRegistration
   pub leads : Leads
+
+-- the registration that a unit's own row would make
+abbrev pub lead_of : List ℕ → UnitRegistration → Lead
+lead_of unit u = (record { unit = unit; from = u.range.from }, record { lead = u.lead; to = u.range.to })
+
+-- one registration for each unit, which begins and ends with it and has its lead account
+abbrev pub one_lead_each : Table (List ℕ) UnitRegistration → Leads
+one_lead_each units = map (λ e. lead_of e.0 e.1) units
 
 -- no unit is registered
 abbrev pub no_registrations : RegistrationsView

@@ -23,7 +23,7 @@ use Rattle.hh_rows.specs.declared.rows.Row.TheVariants as row
 use Rattle.hh_rows.specs.declared.rows.UnitRegistration.{UnitRegistration}
 use Rattle.hh_rows.specs.declared.rows.UnitRow.{UnitRow}
 use Rattle.hh_rows.proofs.KeyLaws.{exact_lead_keys, lead_key_total}
-use Rattle.hh_registrations.specs.Registrations.{Lead, Leads, RegistrationsView, is_begun, is_of_unit, last_begun, no_registrations, registration_on, unless_ended, widened, with_unit_row}
+use Rattle.hh_registrations.specs.Registrations.{Lead, Leads, RegistrationsView, is_begun, is_of_unit, last_begun, lead_of, no_registrations, registration_on, unless_ended, widened, with_unit_row}
 use Rattle.hh_registrations.proofs.KeyLaws.{at}
 use Rattle.hh_registrations.proofs.UpToLaws.{one_unit}
 use Rattle.hh_rules.specs.Entries.{unit_entry}
@@ -32,7 +32,7 @@ use Rattle.hh_rules.specs.Lateness.{Timetable, Accepted, timing_of}
 use Rattle.hh_rules.specs.Refusals.{is_some_that}
 use Rattle.hh_rules.proofs.HistoryLaws.{entries_of-append}
 use Rattle.hh_successions.specs.RegistrationHistory.{IsAcceptedBy, LeadsLookBack, LeadsStay, RegistersRowByRow, UnitsLookBack, is_row_on, no_rows, one_more, refusal_by, registered_with_units, registrations_from, registrations_in, registrations_with}
-use Rattle.hh_successions.specs.SuccessionRefusals.{is_shrunk, is_unit_moved_by_leads, last_lead, lead_of, refusals_by_leads, unit_refusals_by_leads}
+use Rattle.hh_successions.specs.SuccessionRefusals.{is_shrunk, is_unit_moved_by_leads, last_lead, refusals_by_leads, unit_refusals_by_leads}
 use Rattle.hh_successions.proofs.LeadLaws.{AreOf, IsKept, SameElsewhere, UnitRows, first_elsewhere, first_is, first_kept, last_holds, last_known, others_kept, row_on, row_on-append, succeeded_elsewhere, succeeded_is, succession_kept, widened_elsewhere, widened_is, widening_kept, with_registration}
 use Rattle.hh_successions.proofs.RowFacts.{holds_from, last_at, succeeds, widens}
 

@@ -12,7 +12,7 @@ use Rattle.hh_rows.specs.declared.rows.Row.{Row}
 use Rattle.hh_rows.specs.declared.rows.Row.TheVariants as row
 use Rattle.hh_rows.specs.declared.rows.UnitRegistration.{UnitRegistration}
 use Rattle.hh_rows.specs.declared.rows.UnitRow.{UnitRow}
-use Rattle.hh_registrations.specs.Registrations.{Lead, Leads, is_succession, is_widening, last_registration, registration_on}
+use Rattle.hh_registrations.specs.Registrations.{Lead, Leads, is_succession, is_widening, last_registration, lead_of, registration_on}
 use Rattle.hh_rules.specs.declared.timing.Timing.{Timing}
 use Rattle.hh_rules.specs.History.{Registered}
 use Rattle.hh_rules.specs.Lateness.{comes_in_time, lacks_period}
@@ -22,10 +22,6 @@ use Rattle.hh_rules.specs.Refusals.{contract_refusals, is_party_off, is_same_mar
 -- refusals are in the order of their numbers, with their conditions.
 abbrev pub RowRule : Type 0
 RowRule = Registered → Leads → Timing → Row → List (Refusal × Bool)
-
--- the registration that a unit's own row would make
-abbrev pub lead_of : List ℕ → UnitRegistration → Lead
-lead_of unit u = (record { unit = unit; from = u.range.from }, record { lead = u.lead; to = u.range.to })
 
 -- the last registration of a known unit
 abbrev pub last_lead : Leads → List ℕ → UnitRegistration → Lead

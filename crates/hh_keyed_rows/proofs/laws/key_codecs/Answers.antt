@@ -1,5 +1,5 @@
 use Rattle.hh_keyed_rows.proofs.FieldLaws.{account_codec, settlement_period_codec}
-use Rattle.hh_keyed_rows.proofs.KeyCodecs.{contract_key_codec, credit_key_codec, file_key_codec, one_row_codec, position_key_codec, posting_key_codec, reallocation_key_codec, result_key_codec, run_key_codec, unit_period_codec}
+use Rattle.hh_keyed_rows.proofs.KeyCodecs.{contract_key_codec, credit_key_codec, file_key_codec, lead_key_codec, one_row_codec, position_key_codec, posting_key_codec, reallocation_key_codec, result_key_codec, run_key_codec, unit_period_codec}
 use Rattle.hh_keyed_rows.proofs.laws.key_codecs.Goals as goal
 
 pub returns : goal.returns
@@ -8,6 +8,7 @@ returns c = record {
   accounts = account_codec;
   settlement_periods = settlement_period_codec;
   unit_periods = unit_period_codec;
+  leads = lead_key_codec;
   contracts = contract_key_codec;
   reallocations = reallocation_key_codec;
   files = file_key_codec;

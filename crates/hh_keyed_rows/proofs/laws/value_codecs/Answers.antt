@@ -1,5 +1,5 @@
 use Rattle.hh_keyed_rows.proofs.FieldLaws.{counterparties_codec, range_codec}
-use Rattle.hh_keyed_rows.proofs.KeyCodecs.{amounts_codec, file_codec, no_columns_codec, position_codec, reading_codec, reallocation_codec, registered_party_codec, registered_unit_codec, settings_codec_of, summary_codec}
+use Rattle.hh_keyed_rows.proofs.KeyCodecs.{amounts_codec, file_codec, lead_term_codec, no_columns_codec, position_codec, reading_codec, reallocation_codec, registered_party_codec, registered_unit_codec, settings_codec_of, summary_codec}
 use Rattle.hh_keyed_rows.proofs.laws.value_codecs.Goals as goal
 
 pub returns : goal.returns
@@ -8,6 +8,7 @@ returns c = record {
   ranges = range_codec;
   parties = registered_party_codec;
   units = registered_unit_codec;
+  leads = lead_term_codec;
   counterparties = counterparties_codec;
   readings = reading_codec;
   reallocations = reallocation_codec;

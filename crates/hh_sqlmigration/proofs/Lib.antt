@@ -1,0 +1,3 @@
+mod LeadsRise
+mod StatementFacts
+mod StepLaws

@@ -1,0 +1,4 @@
+pub mod Facts
+pub mod Leads
+pub mod Versions
+pub mod steps

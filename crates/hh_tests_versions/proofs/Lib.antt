@@ -1,2 +1,0 @@
-pub mod AddLaws
-pub mod MadeFacts
