@@ -27,13 +27,14 @@ TICKS = os.sysconf("SC_CLK_TCK")
 
 
 def process(number):
-    """A process's parent, the ticks that it and its ended children have used, when it began, and its words. None once it is gone."""
+    """A process's parent, the ticks that it has used by itself, those of its ended children, when it began, and its words. None once it
+    is gone."""
     try:
         with open(f"/proc/{number}/stat", encoding="utf-8") as file:
             fields = file.read().rpartition(")")[2].split()
         with open(f"/proc/{number}/cmdline", encoding="utf-8", errors="replace") as file:
             words = file.read().split("\0")
-        return int(fields[1]), sum(map(int, fields[11:15])), fields[19], words
+        return int(fields[1]), sum(map(int, fields[11:13])), sum(map(int, fields[13:15])), fields[19], words
     except (OSError, IndexError):
         return None
 
@@ -69,18 +70,23 @@ def work_of(number, words):
 
 def watch(command):
     """Runs a command at the top of the repository. What the prover's processes below it used: ticks by crate and phase."""
-    used, kinds = {}, {}
+    used, parts, kinds = {}, collections.defaultdict(dict), {}
     begun = subprocess.Popen(command, cwd=BENCH.parent)
     while begun.poll() is None:
         there = processes()
-        for number, (_, ticks, began, words) in there.items():
+        for number, (parent, own, of_ended, began, words) in there.items():
             work = work_of(number, words)
-            if work and is_below(number, begun.pid, there):
-                used[number, began], kinds[number, began] = ticks, work
+            if not work or not is_below(number, begun.pid, there):
+                continue
+            if parent in there and work_of(parent, there[parent][-1]):
+                parts[parent, there[parent][3]][number, began] = own + of_ended
+            else:
+                used[number, began], kinds[number, began] = (own, of_ended), work
         time.sleep(EVERY)
     sums = collections.Counter()
-    for process_, ticks in used.items():
-        sums[kinds[process_]] += ticks / TICKS
+    for process_, (own, of_ended) in used.items():
+        # (among its ended children are the processes among which it divided its work, unless it ended right after them)
+        sums[kinds[process_]] += (own + max(of_ended, sum(parts[process_].values()))) / TICKS
     return sums, begun.returncode
 
 
