@@ -65,7 +65,7 @@ fn is_of_two<S: Rising>(conn: &mut Connection<S>, alloc: Global) -> Option<bool>
         .query_all("SELECT id FROM settings WHERE version = 2", &[])
         .ok()?;
     let wanted = [lead_of(b"G1", b"GENCO-P")?, lead_of(b"S1", b"SUPCO-C")?];
-    Some(leads.as_slice() == wanted && named.as_slice().len() == 1)
+    Some(leads.as_slice() == wanted.as_slice() && named.as_slice().len() == 1)
 }
 
 /// Whether the database becomes one of version 2, which the step then refuses.
