@@ -6,7 +6,7 @@
 //! - Reports over tables in memory and over tables in a database, into outputs in memory.
 //! - Connections over devices in memory: which bytes are written if a read or a write fails.
 //!   Replies are written out here in the grammar of [formats](../../docs/formats.md).
-//! - Commands over files in memory, and a database that is taken to version 2.
+//! - Commands over files in memory.
 //!
 //! They are in one program, because a program of tests takes a minute before its first test is
 //! proved, and its compiler takes long. A crate of code has no tests, because a crate with tests is
@@ -19,8 +19,6 @@ mod conversations;
 mod device_tests;
 #[cfg(test)]
 mod life_tests;
-#[cfg(test)]
-mod migration_tests;
 #[cfg(test)]
 mod report_tests;
 #[cfg(test)]
