@@ -286,7 +286,7 @@ class Refused(Looking):
         with changing(whole) as made:
             names = [name for (name,) in made.execute("SELECT name FROM sqlite_master WHERE type = 'table'")]
             tables = [(name, made.execute(f"PRAGMA table_info({name})").fetchall()) for name in names]
-        for number in range(400 if IS_LONG else 40):
+        for number in range(400 if IS_LONG else 20):
             database = self.room / f"{number}.db"
             shutil.copy(whole, database)
             with changing(database) as made:

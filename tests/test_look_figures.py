@@ -29,7 +29,7 @@ from test_worked_periods import FIRST, SECOND, figures, rows_of_files
 from look import beside, office, recount, rules
 from look import figures as texts
 
-SEEDS = range(40 if IS_LONG else 6)
+SEEDS = range(40 if IS_LONG else 3)
 # How many numbers are changed in each column, and of how many random offices.
 EACH, OFFICES = (8, 6) if IS_LONG else (2, 1)
 # The columns of numbers from which a statement follows, or which it shows.

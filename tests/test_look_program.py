@@ -25,7 +25,7 @@ DAY, KEY = "2024-07-01", "op-market001"
 MARKET = HOME / "examples" / "market"
 EARLY = 1_719_568_800  # 2024-06-28 10:00 UTC, when the market's contracts come
 REQUESTS = 1_200 if IS_LONG else 200
-SNAPSHOTS = 1_000 if IS_LONG else 25
+SNAPSHOTS = 1_000 if IS_LONG else 15
 MEANWHILE = 0.003  # seconds between two requests
 NOTHING = "Nothing was changed."
 # What R1 of the example market answers, as the guide has it.
@@ -273,7 +273,7 @@ class Check(Asking):
         database, units = self.market(), ["2__SHOPS", "E_MOOR-1", "NONE-1"]
         accounts = ["CITYSUP-P", "CITYSUP-C", "NORTHGEN-P", "NOBODY-P", "SEALINK-P"]
         outcomes = set()
-        for number in range(60 if IS_LONG else 8):
+        for number in range(60 if IS_LONG else 5):
             kind = ("prices", "contracts", "meters", "reallocations")[number % 4]
             rows = [self.row(draw, kind, accounts, units, number % 3 < 2) for _ in range(draw.randint(1, 8))]
             path = self.file(f"{number}.csv", text_of(kind, rows))
