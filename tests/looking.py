@@ -13,6 +13,7 @@ import unittest
 from kept_offices import unpack
 from office_tables import creations
 from programs import HOME
+from test_database import VERSION
 from test_desk import EARLY, OPERATOR, text_of
 from test_documents import BLOCK
 from test_week import Peer, is_late, midnight, periods
@@ -56,6 +57,18 @@ class Looking(unittest.TestCase):
         path = self.room / name / "office.db"
         return path if path.exists() else unpack(name, path.parent)
 
+    def present(self, name):
+        """The file of a kept office in a folder of its own, with the tables of the present version, as `settle migrate` fills them."""
+        path = self.room / f"{name}-present" / "office.db"
+        if not path.exists():
+            unpack(name, path.parent)
+            with changing(path) as made:
+                made.execute(MADE[-1])
+                self.assertIn("TABLE leads", MADE[-1])
+                made.execute("INSERT INTO leads SELECT unit, day_from, party, side, day_to FROM units")
+                made.execute("UPDATE settings SET version = ?", (VERSION,))
+        return path
+
     def shows(self, *words, status=0):
         """The lines of standard output. Standard error has nothing."""
         found, out, err = look(*words)
@@ -85,7 +98,7 @@ class MadeOffice:
         with changing(path) as made:
             for statement in MADE:
                 made.execute(statement)
-            made.execute("INSERT INTO settings VALUES (1, 1, ?, ?)", (lead_minutes, OPERATOR))
+            made.execute("INSERT INTO settings VALUES (1, ?, ?, ?)", (VERSION, lead_minutes, OPERATOR))
             made.execute("INSERT INTO marks VALUES (1, 1)")
 
     def load(self, kind, rows, moment=EARLY):
@@ -97,6 +110,9 @@ class MadeOffice:
             path = pathlib.Path(folder) / name
             path.write_bytes(text_of(kind, timely))
             self.tell("load", made, kind, str(path))
+            if kind == "units":
+                made.execute("DELETE FROM leads")
+                made.execute("INSERT INTO leads SELECT unit, day_from, party, side, day_to FROM units")
             counts = text_of(kind, rows), len(timely), len(rows) - len(timely)
             made.execute("UPDATE files SET body = ?, applied = ?, late = ? WHERE kind = ? AND name = ?", (*counts, kind, name))
         return name

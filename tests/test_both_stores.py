@@ -1,8 +1,8 @@
 """A random list of requests over both stores. An office in memory settles each Settlement Period of a run again, and one in a
 database file settles those that have changed. Each reply is the same, byte by byte, and so are the reports of each run and the
-balances. The file is opened again for each part of the list. Between some parts, a second file is turned into one of the
-version before, in which no positions are kept. What is kept beside the tables is computed again here, from the contracts in
-force and from the rows that were accepted."""
+balances. The file is opened again for each part of the list. Between some parts, a second file is turned into one of version 1, in
+which no positions are kept, and is migrated. What is kept beside the tables is computed again here, from the contracts in force and
+from the rows that were accepted, and so are the registrations of units."""
 import collections
 import datetime
 import itertools
@@ -17,7 +17,7 @@ import unittest
 import test_week
 from programs import SETTLE, need, settle
 from test_commands import day_number
-from test_database import KINDS, WITHOUT_POSITIONS, changed_by, content_of, rows_of
+from test_database import KINDS, OF_VERSION_ONE, VERSION, WITHOUT_POSITIONS, changed_by, content_of, leads_of, rows_of
 from test_desk import OPERATOR, text_of
 from test_serving import request
 from test_week import is_late, periods
@@ -38,11 +38,12 @@ INTERCONNECTOR = "GAMMA-P"
 PAIRS = (("ALFA-P", "BETA-C"), ("BETA-P", "GAMMA-C"), ("GAMMA-P", "ALFA-C"), ("ALFA-C", "BETA-P"))
 # The column of a row's date, by kind. Its period is in the next column.
 PLACES = {"meters": 1, "prices": 0, "contracts": 3, "reallocations": 2}
-# Before these parts of the list the second file is turned into one of the version before.
+# Before these parts of the list the second file is turned into one of version 1, without positions, and migrated.
 TURNED = (0, 4, 6, 11)
 # How many accepted files of each kind have all their rows in time, at least.
 LEAST = {"parties": 20, "units": 20, "meters": 150, "prices": 100, "contracts": 100, "reallocations": 50}
-BESIDE = ("refs", "contracts", "positions", "touched", "marks")
+KEPT = ("refs", "contracts", "positions", "touched", "marks", "units", "leads")
+MIGRATED = (0, f"version {VERSION}\n".encode(), b"")
 BEGINS = re.compile(rb"applied=|run |refused |fault |HTTP/1\.1 |DAY REPORT |date,kind,|account,moved_pence\n")
 
 
@@ -415,9 +416,11 @@ class OfficeInFile:
         self.replies, self.kept = [], []
         for number, part in enumerate(parts):
             if number in turned:
-                changed_by(self.database, *WITHOUT_POSITIONS)
+                changed_by(self.database, *WITHOUT_POSITIONS, *OF_VERSION_ONE)
+                if settle("migrate", "--db", str(self.database)) != MIGRATED:
+                    raise AssertionError(number)
             self.replies += told(room / "script", part, "--db", self.database)
-            self.kept.append({table: rows_of(self.database, table) for table in BESIDE})
+            self.kept.append({table: rows_of(self.database, table) for table in KEPT})
 
 
 class Outcome:
@@ -484,7 +487,7 @@ class Outcome:
 
 
 class BothStores(unittest.TestCase):
-    """What is told over tables in memory, over a file, and over a file that was turned into one of the version before."""
+    """What is told over tables in memory, over a file, and over a file that was turned into one of version 1 and migrated."""
 
     @classmethod
     def setUpClass(cls):
@@ -583,8 +586,8 @@ class BothStores(unittest.TestCase):
 
     def test_touched_periods(self):
         """For each date that has a run, after each part: over the file, the periods of rows in time since the date's latest
-        run, and no others; over the file of the version before, these and perhaps others, because all periods counted as
-        touched once."""
+        run, and no others; over the file that had no positions, these and perhaps others, because all periods counted as touched
+        once."""
         left = 0
         for number, outcome in enumerate(self.outcomes()):
             dates = [date for date, runs in outcome.runs.items() if runs]
@@ -594,6 +597,21 @@ class BothStores(unittest.TestCase):
             self.assertEqual(first_of(wanted - set(self.of_before.kept[number]["touched"])), [], number)
             left += sum(map(periods, dates)) - len(wanted)
         self.assertGreater(left, 1000)
+
+    def test_registrations(self):
+        """After each part each unit has one, from its first date to its last. Some units have been widened to earlier dates, and some
+        to later ones."""
+        moved = collections.Counter()
+        for office in (self.in_file, self.of_before):
+            firsts = {}
+            for number, kept in enumerate(office.kept):
+                self.assertEqual(kept["leads"], leads_of(kept["units"]), (office.database, number))
+                for unit, first, *_, last in kept["leads"]:
+                    old = firsts.setdefault(unit, (first, last))
+                    moved.update({"earlier": first < old[0], "later": last > old[1]})
+                    firsts[unit] = first, last
+            self.assertGreater(len(firsts), 5)
+        self.assertGreaterEqual(min(moved["earlier"], moved["later"]), 2, moved)
 
     def test_rows_of_both_files(self):
         """All tables have the same rows, except for what is kept beside them. Each account is credited the sum of its credits."""

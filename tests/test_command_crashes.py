@@ -12,16 +12,18 @@ import subprocess
 import time
 import unittest
 
+from kept_offices import unpack
 from killing import connect, replied
 from programs import HOME, IS_LONG, settle
 from test_command_faults import EXISTS, NO_FILE, PATIENCE, STORE, Faults
 from test_commands import answer, words_of
-from test_database import TODAY, content_of, rows_of
+from test_database import OF_VERSION_ONE, TABLES_OF_ONE, TODAY, VERSION, changed_by, content_of, content_of_any, rows_of
 from test_desk import APPLIED, DAY, DEARER, EARLY, END, LOADED, MARKET, OPERATOR, SETTLED, text_of
 from test_reports import BALANCES, DAY_REPORT, balances
 from test_serving import reply, request
 
 NO_MEMORY = answer("refused 90 Memory")
+MIGRATED = answer(f"version {VERSION}")
 MOST_CALLS, MOST_ALLOCATIONS = 5000, 1_000_000
 ASKED_AGAIN_EACH = 1 if IS_LONG else 3  # of the calls at which a program is killed
 
@@ -71,6 +73,21 @@ class Shared(Faults):
             self.is_sound()
             self.assertEqual({name for kind, name, *_ in rows_of(self.database, "files") if kind == "prices"}, done)
 
+    def test_two_that_migrate_an_office(self):
+        """One does it. The other waits for it or comes after it, or is refused."""
+        after = content_of(self.database)
+        changed_by(self.database, *OF_VERSION_ONE)
+        before = self.database.read_bytes()
+        for _ in range(12):
+            self.database.write_bytes(before)
+            begun = [self.start("migrate") for _ in range(2)]
+            ends = [(*migrating.communicate(timeout=PATIENCE), migrating.returncode) for migrating in begun]
+            ends = [(status, written, told) for written, told, status in ends]
+            self.assertIn(MIGRATED, ends)
+            self.assertLessEqual({*ends}, {MIGRATED, STORE})
+            self.is_sound()
+            self.assertEqual(content_of_any(self.database), after)
+
     def test_two_that_make_an_office(self):
         """One makes it, with its key."""
         keys = "op-first00001", "op-second0001"
@@ -83,7 +100,7 @@ class Shared(Faults):
             self.assertEqual(len(ready), 1, ends)
             self.assertIn(next(end for key, end in ends.items() if key not in ready), (EXISTS, STORE))
             self.is_sound()
-            self.assertEqual(rows_of(self.database, "settings"), [(1, 1, 60, ready[0])])
+            self.assertEqual(rows_of(self.database, "settings"), [(1, VERSION, 60, ready[0])])
 
 
 class Ended(Faults):
@@ -102,6 +119,12 @@ class Ended(Faults):
         self.database = folder / "office.db"
         shutil.copy(self.base, self.database)
 
+    def make_older(self):
+        """The office becomes one of version 1. What it had, and what it has once it is migrated."""
+        after = content_of(self.base)
+        changed_by(self.base, *OF_VERSION_ONE)
+        return content_of(self.base, TABLES_OF_ONE), after
+
     def compiled(self, name):
         """A library that is preloaded into a program, built from its source."""
         library = str(self.room / f"{name}.so")
@@ -109,13 +132,13 @@ class Ended(Faults):
         subprocess.run(["cc", "-shared", "-fPIC", "-O1", "-o", library, source, "-ldl"], check=True)
         return library
 
-    def read_copy(self, name):
+    def read_copy(self, name, end="copy"):
         """What sqlite3 finds in what was left. What was left stays as it is."""
-        copy = self.room / f"{name}-copy"
+        copy = self.room / f"{name}-{end}"
         shutil.copytree(self.database.parent, copy)
         self.database, left = copy / "office.db", self.database
         self.is_sound()
-        content = content_of(self.database)
+        content = content_of_any(self.database)
         self.database = left
         return content
 
@@ -174,6 +197,25 @@ class Killed(Ended):
             self.assertEqual(self.read_copy(f"full{more}"), before)
             self.assertEqual(self.command(*self.load_words()), answer("applied=5760 late=0"))
             self.is_sound()
+
+    def test_a_full_disk_under_a_migration(self):
+        """It is refused, and done later when there is room. The office is of version 1 until then."""
+        before, after = self.make_older()
+        for more in (0, 1, 4096, 8192):
+            self.fresh(f"migrating{more}")
+            size = self.database.stat().st_size + more
+
+            def limit():
+                signal.signal(signal.SIGXFSZ, signal.SIG_IGN)
+                resource.setrlimit(resource.RLIMIT_FSIZE, (size, size))
+
+            # (the log has its own length, and is shorter than the file)
+            made = self.command("migrate", preexec_fn=limit)
+            with self.subTest(more):
+                self.assertIn(made, (STORE, MIGRATED))
+                self.assertEqual(self.read_copy(f"migrating{more}"), before if made == STORE else after)
+                self.assertEqual(self.command("migrate"), MIGRATED)
+                self.assertEqual(self.read_copy(f"migrating{more}", "migrated"), after)
 
     def test_a_refused_office_leaves_nothing(self):
         """An office for which there is no room is refused, and made later when there is room."""
@@ -316,6 +358,53 @@ class KilledAtEachCall(Ended):
         script = self.file("lines.script", "".join(f"{line}\n" for line in lines))
         self.kill_each("script", lambda number: self.killed(number, "script", script), replies, contents)
 
+    def kill_migrations(self, name, begin):
+        """Kills `migrate` at each call in turn, over an office of version 1 that `begin` puts into a folder. What is left is of version 1
+        or of this version, whole, and the next `migrate` ends the work. Until then other commands refuse an office of version 1. No file
+        is removed."""
+        begin(f"{name}0")
+        contents = [self.read_copy(f"{name}0")]
+        self.assertEqual(contents[0].keys(), {*TABLES_OF_ONE})
+        self.assertEqual(self.killed(0, "migrate"), MIGRATED)
+        contents.append(content_of_any(self.database))
+        found = set()
+        for number in range(1, MOST_CALLS):
+            begin(f"{name}{number}")
+            files = {path.name for path in self.database.parent.iterdir()}
+            made = self.killed(number, "migrate")
+            if made == MIGRATED:
+                self.assertEqual(found, {0, 1}, "each was found")
+                return
+            with self.subTest(f"{name} killed at call {number}"):
+                self.assertEqual((made[0], made[2]), (-signal.SIGKILL, b""))
+                self.assertLessEqual(files, {path.name for path in self.database.parent.iterdir()})
+                left = contents.index(self.read_copy(f"{name}{number}"))
+                self.assertIn(made[1], (b"", MIGRATED[1]) if left else (b"",))
+                found.add(left)
+                if number % ASKED_AGAIN_EACH == 0 and not left:
+                    self.assertEqual(self.command("report", "--key", OPERATOR, "balances"), STORE)
+                    self.assertEqual(self.read_copy(f"{name}{number}", "refused"), contents[0])
+                self.assertEqual(self.command("migrate"), MIGRATED)
+                self.is_sound()
+                self.assertEqual(content_of_any(self.database), contents[1])
+        self.fail("it was always killed")
+
+    def test_a_migration(self):
+        """Of an office without a log beside it."""
+        self.make_older()
+        self.kill_migrations("older", self.fresh)
+
+    def test_migrations_of_kept_offices(self):
+        """They were made by an earlier program. One has in its log what its file lacks, and a part of a change that never ended."""
+        for office in ("dearer-sf", "killed-writing"):
+
+            def begin(name, office=office):
+                folder = self.room / name
+                shutil.rmtree(folder, ignore_errors=True)
+                self.database = unpack(office, folder)
+
+            self.kill_migrations(office, begin)
+
     def test_a_new_office(self):
         """If it is not whole, a command is refused. Nothing but the new office is ever removed."""
         refused = 0
@@ -334,7 +423,7 @@ class KilledAtEachCall(Ended):
                     continue
                 self.assertEqual((status, written, told), answer("account,moved_pence"))
                 self.is_sound()
-                self.assertEqual(rows_of(self.database, "settings"), [(1, 1, 60, OPERATOR)])
+                self.assertEqual(rows_of(self.database, "settings"), [(1, VERSION, 60, OPERATOR)])
                 self.answers(self.load(*MARKET[0]), LOADED[0])
         self.fail("it was always killed")
 
@@ -358,9 +447,9 @@ class RefusedMemory(Ended):
 
     def refuse_each(self, wanted, name, *words):
         self.fresh("memory")
-        before = content_of(self.database)
+        before = content_of_any(self.database)
         self.assertEqual(self.command(name, *words), wanted)
-        after, shown = content_of(self.database), 0
+        after, shown = content_of_any(self.database), 0
         for number in allocations():
             self.fresh("memory")
             made, was_refused = self.refused(number, name, *words)
@@ -372,9 +461,13 @@ class RefusedMemory(Ended):
                 is_told = (made[0], made[2]) == (1, NO_MEMORY[2]) and wanted[1].startswith(made[1])
                 self.assertTrue(is_told or made == wanted, made)
                 self.is_sound()
-                self.assertEqual(content_of(self.database), before if is_told else after)
+                self.assertEqual(content_of_any(self.database), before if is_told else after)
                 shown += is_told
         self.fail("it was always refused")
+
+    def test_a_migration(self):
+        self.make_older()
+        self.refuse_each(MIGRATED, "migrate")
 
     def test_loads(self):
         self.refuse_each(answer(APPLIED), "load", *self.commands["load"])

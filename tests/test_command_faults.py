@@ -11,7 +11,7 @@ import unittest
 
 from programs import SETTLE, as_nobody, settle
 from test_commands import AtAFile, answer, words_of
-from test_database import TODAY, changed_by, content_of, rows_of
+from test_database import TODAY, VERSION, changed_by, content_of, rows_of
 from test_desk import APPLIED, DAY, EARLY, END, LOADED, MARKET, NEXT_END, OPERATOR, SETTLED, text_of
 from test_reports import balances
 
@@ -34,6 +34,7 @@ class Faults(AtAFile):
         self.prices = self.path("p2.csv", text_of("prices", [f"{DAY},1,60.00000"]))
         self.script = self.file("balances", f"{balances()}\n")
         self.commands = {
+            "migrate": (),
             "load": ("--key", OPERATOR, f"--at={EARLY}", "prices", self.prices),
             "run": ("--key", OPERATOR, f"--at={END}", DAY, "SF"),
             "report": ("--key", OPERATOR, "balances"),
@@ -101,6 +102,7 @@ class Paths(Faults):
         self.assertEqual(self.command("script", missing), NO_FILE)
         self.assertEqual(self.command("serve", f"--port={port}"), NO_FILE)
         self.assertEqual(self.by_shell(">/dev/full", "report", "--key", OPERATOR, "balances"), NO_FILE)
+        self.assertEqual(self.by_shell(">/dev/full", "migrate"), NO_FILE)
         self.database = self.room / "empty"
         self.database.write_bytes(b"")
         self.assertEqual(self.by_shell(">/dev/full", "init", "--operator-key", OPERATOR), EXISTS)
@@ -145,7 +147,7 @@ class Paths(Faults):
     def test_a_relative_path(self):
         """It is relative to the folder in which the command is called."""
         self.assertEqual(settle("init", "--db", "here.db", "--operator-key", OPERATOR, cwd=self.room), answer("ready"))
-        self.assertEqual(rows_of(self.room / "here.db", "settings"), [(1, 1, 60, OPERATOR)])
+        self.assertEqual(rows_of(self.room / "here.db", "settings"), [(1, VERSION, 60, OPERATOR)])
         made = settle("report", "--db", "./here.db", "--key", OPERATOR, "balances", cwd=self.room)
         self.assertEqual(made, answer("account,moved_pence"))
 
@@ -198,6 +200,7 @@ class Foreign(Faults):
             ["CREATE TABLE notes (text)"],
             ["DROP TABLE marks"],
             ["DROP TABLE settings"],
+            ["DROP TABLE leads"],
             ["ALTER TABLE prices ADD COLUMN more INT"],
             ["CREATE INDEX dates ON meters (day)"],
         ):
@@ -205,7 +208,8 @@ class Foreign(Faults):
 
     def test_other_versions(self):
         for statement in (
-            "UPDATE settings SET version = 2",
+            "UPDATE settings SET version = 1",
+            "UPDATE settings SET version = 7",
             "UPDATE settings SET version = 0",
             "UPDATE settings SET version = -1",
             "DELETE FROM settings",
@@ -217,7 +221,9 @@ class Foreign(Faults):
     def test_a_database_of_others(self):
         self.database = self.room / "notes.db"
         changed_by(self.database, "CREATE TABLE notes (text)", "INSERT INTO notes VALUES ('kept')")
+        before = self.database.read_bytes()
         self.each(STORE)
+        self.assertEqual(self.database.read_bytes(), before)
         connection = sqlite3.connect(self.database)
         self.addCleanup(connection.close)
         self.assertEqual(connection.execute("SELECT * FROM notes").fetchall(), [("kept",)])
@@ -230,7 +236,7 @@ class Foreign(Faults):
     def test_before_what_comes_later(self):
         """Before inputs, ports, the office and outputs."""
         missing, port = str(self.room / "missing.csv"), self.taken_port()
-        for statement in ("UPDATE settings SET version = 2", "CREATE TABLE notes (text)"):
+        for statement in ("UPDATE settings SET version = 7", "CREATE TABLE notes (text)"):
             changed_by(self.database, statement)
             with self.subTest(statement):
                 self.assertEqual(self.command("load", "--key", OPERATOR, "prices", missing), STORE)
@@ -238,9 +244,10 @@ class Foreign(Faults):
                 self.assertEqual(self.command("report", "--key", "genco0001", "balances"), STORE)
                 self.assertEqual(self.command("run", "--key", OPERATOR, DAY, "R1"), STORE)
                 self.assertEqual(self.by_shell(">/dev/full", "report", "--key", OPERATOR, "balances"), STORE)
+                self.assertEqual(self.by_shell(">/dev/full", "migrate"), STORE)
 
     def test_before_a_script_that_is_not_there(self):
-        changed_by(self.database, "UPDATE settings SET version = 2")
+        changed_by(self.database, "UPDATE settings SET version = 7")
         self.assertEqual(self.command("script", self.room / "missing"), STORE)
 
     def test_files_of_others(self):
@@ -326,7 +333,7 @@ class Outputs(Faults):
         self.database, office = self.room / "full.db", self.database
         self.assertEqual(self.by_shell(">/dev/full", "init", "--operator-key", OPERATOR), OUTPUT)
         self.is_sound()
-        self.assertEqual(rows_of(self.database, "settings"), [(1, 1, 60, OPERATOR)])
+        self.assertEqual(rows_of(self.database, "settings"), [(1, VERSION, 60, OPERATOR)])
         self.answers(self.load(*MARKET[0]), LOADED[0])
         self.database = office
         self.assertEqual(self.by_shell(">/dev/full", "load", *self.commands["load"]), OUTPUT)

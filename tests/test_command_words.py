@@ -6,7 +6,7 @@ import unittest
 from programs import SETTLE, settle
 from test_command_faults import PATIENCE, Faults
 from test_commands import answer
-from test_database import rows_of
+from test_database import VERSION, rows_of
 from test_desk import APPLIED, DAY, END, OPERATOR
 
 # Each command, in short.
@@ -15,6 +15,7 @@ FORMS = (
     "settle script --operator-key KEY [--lead-minutes N] [--strict] FILE",
     "settle script --db PATH [--strict] FILE",
     "settle init --db PATH --operator-key KEY [--lead-minutes N]",
+    "settle migrate --db PATH",
     "settle load --db PATH --key KEY [--at SECONDS] KIND FILE",
     "settle run --db PATH --key KEY [--at SECONDS] DATE KIND",
     "settle report --db PATH --key KEY FORM [DATE KIND]",
@@ -70,6 +71,25 @@ class WrongWords(Faults):
             ("init", *path, *key, "--help"),
         )
         self.assertFalse((self.room / "new.db").exists())
+
+    def test_migrate(self):
+        """It takes the path alone."""
+        path = "--db", str(self.database)
+        self.no_command(
+            ("migrate",),
+            ("migrate", "--db"),
+            ("migrate", path[1]),
+            ("migrate", *path, *path),
+            ("migrate", *path, "more"),
+            ("migrate", *path, "2"),
+            ("migrate", *path, "--key", OPERATOR),
+            ("migrate", *path, "--operator-key", OPERATOR),
+            ("migrate", *path, "--at=5"),
+            ("migrate", *path, "--version"),
+            ("migrate", *path, "--help"),
+            ("migrates", *path),
+        )
+        self.assertEqual(self.command("migrate", "--"), answer("version 2"))
 
     def test_load(self):
         good, file = ("--key", OPERATOR), ("prices", self.prices)
@@ -186,7 +206,7 @@ class WrongWords(Faults):
         self.assertEqual(self.command("load", "--key", OPERATOR, "--at=-0005", "prices", self.prices), answer(APPLIED))
         self.database = self.room / "zeros.db"
         self.init("--lead-minutes=0090")
-        self.assertEqual(rows_of(self.database, "settings"), [(1, 1, 90, OPERATOR)])
+        self.assertEqual(rows_of(self.database, "settings"), [(1, VERSION, 90, OPERATOR)])
 
     def test_words_in_another_order(self):
         """Options may come before or after the words that have a place, and with `=` or separately."""

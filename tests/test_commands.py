@@ -11,7 +11,7 @@ import test_database
 import test_desk
 import test_reports
 from programs import settle
-from test_database import LAST_DAY, NEW_YEAR, TODAY, content_of, rows_of
+from test_database import LAST_DAY, NEW_YEAR, TODAY, VERSION, content_of, leads_of, rows_of
 from test_desk import APPLIED, DAY, DEADLINE, EARLY, END, IDLE, LATE, LOADED, OPERATOR, Desk, text_of
 from test_reports import BALANCES, DAY_REPORT, JOINS, RESULTS, balances, report
 
@@ -164,9 +164,10 @@ class WorkedDays(AtAFile):
         for line, text in zip(self.market(), LOADED, strict=True):
             self.answers(line, text)
         wanted = {
-            "settings": [(1, 1, 45, OPERATOR)],
+            "settings": [(1, VERSION, 45, OPERATOR)],
             "parties": [(party, NEW_YEAR, LAST_DAY, f"{party.lower()}0001") for party in ("GENCO", "SUPCO")],
             "units": [("G1", "GENCO", 0, 0, NEW_YEAR, LAST_DAY), ("S1", "SUPCO", 1, 0, NEW_YEAR, LAST_DAY)],
+            "leads": [("G1", NEW_YEAR, "GENCO", 0, LAST_DAY), ("S1", NEW_YEAR, "SUPCO", 1, LAST_DAY)],
             "refs": [("C1", "GENCO", 0, "SUPCO", 1)],
             "contracts": [("C1", TODAY, 1, 99_000)],
             "prices": [(TODAY, 1, 5_000_000), *((TODAY, period, 0) for period in IDLE)],
@@ -263,6 +264,42 @@ class WorkedFiles(AtAFile):
             self.changes_nothing(self.contract("a.csv", "98.000", moment), APPLIED)
         self.changes_nothing(self.contract("a.csv", "98.001"), "refused 20 FileChanged")
         self.assertEqual(self.in_force(), {"C1": 96_000})
+
+    def test_registrations_of_units(self):
+        """A unit has one, from its first date to its last. A row with a wider range takes the place of the unit's own, also where it
+        begins earlier. A refused file changes none."""
+        kept = rows_of(self.database, "leads")
+
+        def leads(*more):
+            rows = [(unit, day_number(first), party, side, day_number(last)) for unit, first, party, side, last in more]
+            self.assertEqual(rows_of(self.database, "leads"), sorted([*kept, *rows]))
+            self.assertEqual(leads_of(rows_of(self.database, "units")), sorted([*kept, *rows]))
+
+        for number, (first, last) in enumerate(
+            (
+                ("2024-03-01", "2024-03-31"),
+                ("2024-03-01", "2024-04-30"),
+                ("2024-02-01", "2024-04-30"),
+                ("2024-01-31", "2024-05-01"),
+                ("2024-01-31", "2024-05-01"),
+                ("2024-01-31", ""),
+            )
+        ):
+            self.answers(self.load("units", f"W1,GENCO,P,no,{first},{last}", f"w{number}.csv"), APPLIED)
+            leads(("W1", first, "GENCO", 0, last or "2099-12-31"))
+        own = ("W1", "2024-01-31", "GENCO", 0, "2099-12-31")
+        for row, text in (
+            ("W1,GENCO,P,no,2024-02-01,", "refused 39 ShrinksRange row 1"),
+            ("W1,GENCO,P,no,2024-01-30,2099-12-30", "refused 39 ShrinksRange row 1"),
+            ("W1,SUPCO,P,no,2024-01-30,", "refused 40 UnitMoved row 1"),
+            ("W1,GENCO,C,no,2024-01-30,", "refused 40 UnitMoved row 1"),
+            ("W1,GENCO,P,no,2023-12-31,", "refused 33 NotEffective row 1"),
+        ):
+            self.changes_nothing(self.load("units", row, "refused.csv"), text)
+        rows = ["W2,SUPCO,C,yes,2024-05-02,2024-05-02", "W2,SUPCO,C,yes,2024-05-01,2024-05-03"]
+        self.changes_nothing(self.load("units", [*rows, "W2,SUPCO,C,yes,2024-05-02,2024-05-03"], "refused.csv"), "refused 39 ShrinksRange row 3")
+        self.answers(self.load("units", rows, "two.csv"), "applied=2 late=0")
+        leads(own, ("W2", "2024-05-01", "SUPCO", 1, "2024-05-03"))
 
     def test_a_bad_third_row(self):
         rows = [f"C{number},GENCO-P,{'SUPCO-C' if number < 4 else 'GENCO-P'},{DAY},1,1.000" for number in (2, 3, 4)]

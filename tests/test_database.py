@@ -23,6 +23,7 @@ from test_desk import Desk, text_of
 from test_reports import BALANCES, DAY_REPORT, RESULTS, balances, report
 
 STORE = "refused 91 Store"
+VERSION = 2  # of the tables
 MOST_CALLS = 200
 # Each table with its columns. They are whole numbers, unless a word follows. The first columns, as many as the number says, are
 # the key.
@@ -43,13 +44,18 @@ TABLES = {
     "positions": (4, "day period party:TEXT side kwh lost"),
     "touched": (2, "day period"),
     "marks": (1, "id positions"),
+    "leads": (2, "unit:TEXT day_from party:TEXT side day_to"),
 }
+# Those of version 1.
+TABLES_OF_ONE = [table for table in TABLES if table != "leads"]
 # 2024-07-01 is the 19,905th day after 1970-01-01, and 2024-01-01 the 19,723rd; 2001-01-01 is the 11,323rd, 2024-10-27 the 20,023rd
 # and 2099-12-31 the 47,481st.
 TODAY, NEW_YEAR, FIRST_DAY, AUTUMN, LAST_DAY = 19_905, 19_723, 11_323, 20_023, 47_481
 KINDS = ("SF", "R1", "R2", "R3", "RF", "DF")
-# An office's file becomes one of the version before, in which no positions are kept.
+# An office's file becomes one in which no positions are kept, as they once weren't.
 WITHOUT_POSITIONS = ("DELETE FROM positions", "DELETE FROM touched", "UPDATE marks SET positions = 0")
+# An office's file becomes one of version 1.
+OF_VERSION_ONE = ("DROP TABLE leads", "UPDATE settings SET version = 1")
 
 
 def office(database, script, *made, **how):
@@ -67,9 +73,24 @@ def rows_of(database, table, order=None):
         return connection.execute(f"SELECT * FROM {table} ORDER BY {order}").fetchall()
 
 
-def content_of(database):
+def content_of(database, tables=TABLES):
     """All rows of an office's database, by table."""
-    return {table: rows_of(database, table) for table in TABLES}
+    return {table: rows_of(database, table) for table in tables}
+
+
+def content_of_any(database):
+    """All rows of an office's database, which has the tables of version 1 and no others if its settings name that version."""
+    ((_, version, *_),) = rows_of(database, "settings")
+    tables = TABLES_OF_ONE if version == 1 else TABLES
+    with contextlib.closing(sqlite3.connect(database)) as connection:
+        found = [name for (name,) in connection.execute("SELECT name FROM sqlite_schema WHERE type = 'table'")]
+    assert found == [*tables], (version, found)
+    return content_of(database, tables)
+
+
+def leads_of(units):
+    """The rows of `leads` by which each of these units has one registration, from its first date to its last."""
+    return sorted((unit, first, party, side, last) for unit, party, side, _, first, last in units)
 
 
 def changed_by(database, *statements):
@@ -385,9 +406,10 @@ class Beside(InAFile):
             peer["run"](peer["connection"], DAY, "SF")
         self.assertEqual(made[-1:], told.getvalue().splitlines())
         for table in TABLES:
-            if table not in ("settings", "positions", "touched", "marks"):
+            if table not in ("settings", "positions", "touched", "marks", "leads"):
                 with self.subTest(table):
                     self.assertEqual(set(rows_of(database, table)), set(peer["connection"].execute(f"SELECT * FROM {table}")))
+        self.assertEqual(rows_of(database, "leads"), leads_of(rows_of(database, "units")))
 
     def peer_of(self, folder, files):
         """The peer over tables in memory, after it has loaded these files."""
@@ -427,7 +449,7 @@ class Kept(InAFile):
         database = self.database()
         self.assertEqual(self.replies_over(database, made=(OPERATOR, "45")), [])
         content = content_of(database)
-        self.assertEqual(content.pop("settings"), [(1, 1, 45, OPERATOR)])
+        self.assertEqual(content.pop("settings"), [(1, VERSION, 45, OPERATOR)])
         self.assertEqual(content.pop("marks"), [(1, 1)])
         self.assertEqual(content, dict.fromkeys(content, []))
 
@@ -438,7 +460,7 @@ class Kept(InAFile):
         meters = [("G1", TODAY, 1, 100_000, 9_950_000, 0), *(("G1", TODAY, period, 0, 10_000_000, 0) for period in idle)]
         meters += [("S1", TODAY, 1, -98_000, 10_050_000, 0), *(("S1", TODAY, period, 0, 10_000_000, 0) for period in idle)]
         wanted = {
-            "settings": [(1, 1, 60, OPERATOR)],
+            "settings": [(1, VERSION, 60, OPERATOR)],
             "parties": [("GENCO", NEW_YEAR, LAST_DAY, "genco0001"), ("SUPCO", NEW_YEAR, LAST_DAY, "supco0001")],
             "units": [("G1", "GENCO", 0, 0, NEW_YEAR, LAST_DAY), ("S1", "SUPCO", 1, 0, NEW_YEAR, LAST_DAY)],
             "meters": meters,
@@ -449,6 +471,7 @@ class Kept(InAFile):
             "positions": [(TODAY, 1, "GENCO", 0, 99_000, 0), (TODAY, 1, "SUPCO", 1, -99_000, 0)],
             "touched": [(TODAY, period) for period in range(1, 49)],
             "marks": [(1, 1)],
+            "leads": [("G1", NEW_YEAR, "GENCO", 0, LAST_DAY), ("S1", NEW_YEAR, "SUPCO", 1, LAST_DAY)],
         }
         content = content_of(database)
         files = {(kind, name): (body, applied, late) for kind, name, body, applied, late in content.pop("files")}
@@ -474,6 +497,7 @@ class Kept(InAFile):
             "units": [("G1", "GENCO", 0, 0, NEW_YEAR - 1, LAST_DAY), ("G_1", "GENCO", 1, 0, NEW_YEAR, NEW_YEAR), ("I1", "GENCO", 1, 1, FIRST_DAY, LAST_DAY)],
             "meters": [("G1", AUTUMN, 49, 10_000_000, 9_912_345, -10_000_000), ("G1", AUTUMN, 50, -10_000_000, 20_000_000, 1)],
             "prices": [(AUTUMN, 49, 9_999_999_999), (AUTUMN, 50, -9_999_999_999)],
+            "leads": [("G1", NEW_YEAR - 1, "GENCO", 0, LAST_DAY), ("G_1", NEW_YEAR, "GENCO", 1, NEW_YEAR), ("I1", FIRST_DAY, "GENCO", 1, LAST_DAY)],
             "refs": [("c-1", "GENCO", 0, "SUPCO", 1)],
             "contracts": [("c-1", AUTUMN, 3, -1_500), ("c-1", LAST_DAY, 1, 10_000_000)],
             "reallocations": [("G1", "SUPCO", 0, AUTUMN, period, *row) for period, row in ((3, (2_500_000, 10_000_000)), (4, (10_000_000, -1)), (5, (1, 0)))],
@@ -485,6 +509,7 @@ class Kept(InAFile):
         for table, rows in wanted.items():
             with self.subTest(table):
                 self.assertEqual([row for row in after[table] if row not in before[table]], rows)
+        self.assertEqual(after["leads"], leads_of(after["units"]))
 
     def test_balances_of_any_size(self):
         """They may be larger than a posting. What is posted to an account of no party isn't shown."""
@@ -656,6 +681,7 @@ class Bad(InAFile):
         for statements in (
             ["CREATE TABLE more (id INT)"],
             ["DROP TABLE touched"],
+            ["DROP TABLE leads"],
             ["ALTER TABLE marks ADD COLUMN more INT"],
             ["DROP TABLE touched", "CREATE TABLE touched (day INT NOT NULL, period INT NOT NULL, PRIMARY KEY (period, day)) STRICT"],
             ["DROP TABLE touched", "CREATE TABLE touched (day INT NOT NULL, period TEXT NOT NULL, PRIMARY KEY (day, period)) STRICT"],
@@ -674,7 +700,8 @@ class Bad(InAFile):
         database, _ = self.loaded()
         data = database.read_bytes()
         for statement in (
-            "UPDATE settings SET version = 2",
+            "UPDATE settings SET version = 1",
+            "UPDATE settings SET version = 7",
             "UPDATE settings SET version = 0",
             "UPDATE settings SET id = 2",
             "UPDATE settings SET lead_minutes = 1441",

@@ -1,5 +1,5 @@
 """The definitions that must be believed: each of them, unless it is in specs/steps/, is reached from a contract that a crate
-offers."""
+offers, or is named by another crate."""
 import collections
 import re
 import unittest
@@ -10,6 +10,8 @@ from contracts import FUNCTION, NAME, definitions_of, header
 TYPE = re.compile(r"^pub (?:struct|enum|trait|type) (\w+)", re.M)
 BLOCK = re.compile(r"(?:pub )?(impl|trait)\b(?:<.*?>)? (\w+)")
 FOR = re.compile(r" for (\w+)")
+# The crate from whose definitions a file takes names, and these.
+TAKEN = re.compile(r"(?m)^(?:pub |ghost )*use Rattle\.(\w+)\.specs\.[\w.]*\{([^}]*)\}")
 # Operators that `do` reaches without naming them.
 UNNAMED = {"◌>>=◌"}
 
@@ -50,6 +52,11 @@ def offered_names(text, types):
     return names
 
 
+def names_from_other_crates(crate, text):
+    """What a file of a crate takes by name from the definitions of other crates."""
+    return {name for of, names in TAKEN.findall(text) if of != crate for name in NAME.findall(names)}
+
+
 class Definitions(unittest.TestCase):
     needs_programs = False
 
@@ -64,6 +71,9 @@ class Definitions(unittest.TestCase):
             texts = [file.read_text(encoding="utf-8") for file in folder.rglob("*.rt") if "tests" not in file.name]
             types = {name for text in texts for name in TYPE.findall(text)}
             todo += [name for text in texts for name in offered_names(text, types)]
+        # What another crate names is offered to it, also where only its private contracts need it.
+        for file in [*HOME.glob("crates/*/src/**/*.rt"), *HOME.glob("crates/*/specs/**/*.antt")]:
+            todo += names_from_other_crates(file.relative_to(HOME).parts[1], file.read_text(encoding="utf-8"))
         reached = set()
         while todo:
             name = todo.pop()

@@ -64,7 +64,7 @@ PORT_TAKEN = "Address already in use (os error 98)"
 NOT_OPERATORS = "the key that is shown isn't the operator's"
 NOT_AGAIN = "it can't be read a second time"
 NO_OUTPUT = "standard output takes nothing"
-NO_OFFICE = "the database can't be used, as when another program has it open, an earlier version made it, or it is no office's"
+NO_OFFICE = "the database can't be used, as when another program has it open, an earlier version made it (settle migrate makes it usable), or it is no office's"
 
 
 def shown(text):

@@ -17,7 +17,7 @@ import unittest.mock
 from kept_offices import OFFICES
 from looking import Looking, changing, documented, look
 from programs import HOME, IS_LONG
-from test_database import content_of
+from test_database import content_of_any
 
 from look import clock, commands, copying, office
 from look.telling import Fault
@@ -130,7 +130,7 @@ class Copies(Looking):
 
         with unittest.mock.patch.object(copying, "copy_file", copy_file), unittest.mock.patch.object(copying, "PAUSE", 0):
             copying.copy_office(str(database), str(self.room / "copy.db"))
-        self.assertEqual(content_of(self.room / "copy.db"), content_of(shutil.copytree(database.parent, self.room / "whole") / "office.db"))
+        self.assertEqual(content_of_any(self.room / "copy.db"), content_of_any(shutil.copytree(database.parent, self.room / "whole") / "office.db"))
         return made.count(str(database))
 
     def test_a_file_that_moves_is_copied_anew(self):
@@ -175,7 +175,7 @@ class Copies(Looking):
         log = database.with_name("office.db-wal")
         whole = log.read_bytes()
         log.write_bytes(whole[: len(whole) // 2])
-        before = content_of(database.parent.rename(self.room / "half") / "office.db")
+        before = content_of_any(database.parent.rename(self.room / "half") / "office.db")
         database = self.kept("killed")
         log = database.with_name("office.db-wal")
         log.write_bytes(whole[: len(whole) // 2])
@@ -190,7 +190,7 @@ class Copies(Looking):
         with unittest.mock.patch.object(copying, "copy_file", copy_file):
             copying.copy_office(str(database), str(self.room / "copy.db"))
         self.assertEqual(len(made), 2)
-        self.assertEqual(content_of(self.room / "copy.db"), before)
+        self.assertEqual(content_of_any(self.room / "copy.db"), before)
 
     def test_a_file_that_never_stays(self):
         database = self.kept("new")
@@ -241,11 +241,27 @@ class Refused(Looking):
 
     def test_another_version(self):
         database = self.kept("market")
-        for version in 0, 2:
+        for version in 0, 3:
             with changing(database) as made:
                 made.execute("UPDATE settings SET version = ?", (version,))
             told = self.refuses("status", "--db", database)
-            self.assertIn(f"its tables are of version {version}, and only those of version 1 are read here", told)
+            self.assertIn(f"its tables are of version {version}, and only those of versions 1 and 2 are read here", told)
+
+    def test_both_versions(self):
+        """Of an office that was migrated the same is shown."""
+        for words in SHOWING:
+            with self.subTest(words):
+                self.assertEqual(look(*asked(words, self.present("market"))), look(*asked(words, self.kept("market"))))
+
+    def test_what_the_program_is_not_asked(self):
+        """It opens the present version alone, so nothing of an older office is asked, and the line says what helps."""
+        database = self.kept("market")
+        path = self.room / "p.csv"
+        path.write_text("date,period,price\n")
+        for words in ("check", "--db", database, "prices", path), ("preview", "--db", database, DAY, "R2"):
+            for more in (), ("--whole",):
+                told = self.refuses(words[0], *more, *words[1:])
+                self.assertEqual(told, f"look: {database}: its tables are of version 1, which the program doesn't open; `settle migrate` makes them usable")
 
     def test_a_change_that_is_half_done(self):
         database = self.kept("new")
@@ -457,6 +473,19 @@ class Status(Looking):
                 "a run names the first: 54 MissingMeter unit 2__SHOPS period 7",
             ],
         )
+
+    def test_who_leads_a_unit_on_a_date(self):
+        """It is the account of the registration that holds the date. The unit's own row has the latest."""
+        database = self.present("market")
+        with changing(database) as made:
+            made.execute("DELETE FROM prices")
+            day = clock.day_of(DAY)
+            made.execute("UPDATE leads SET day_to = ? WHERE unit = '2__SHOPS'", (day,))
+            made.execute("INSERT INTO leads VALUES ('2__SHOPS', ?, 'TRADECO', 1, ?)", (day + 1, clock.LAST))
+            made.execute("UPDATE units SET party = 'TRADECO' WHERE unit = '2__SHOPS'")
+            made.execute("DELETE FROM meters WHERE unit = '2__SHOPS'")
+        self.assertIn("2__SHOPS (CITYSUP-C): all 48 periods", self.shows("missing", "--db", database, DAY))
+        self.assertIn("2__SHOPS (TRADECO-C): all 48 periods", self.shows("missing", "--db", database, "2024-07-02"))
 
     def test_all_is_missing(self):
         """SEALINK takes part until 2025-03-31."""

@@ -498,6 +498,28 @@ class Changed(Looking):
                 self.assertEqual(look("why", "--db", database, account, date, kind)[0], 0)
         self.assertGreater(tried, 500 if IS_LONG else 60)
 
+    def test_registrations(self):
+        """Each number of a unit's registration, and a registration that is gone, too many or of another party."""
+        draw, database = random.Random(4), self.present("market")
+
+        def shows(*_):
+            return [("why", "--db", database, "TRADECO-P", DAY, "R1")]
+
+        self.assertGreater(self.each(database, draw, {"leads": ["side", "day_from", "day_to"]}, shows), 5)
+        whole = database.read_bytes()
+        for change, told in (
+            ("UPDATE leads SET party = 'TRADECO' WHERE unit = '2__SHOPS'", "unit 2__SHOPS from 2024-01-01: the table leads has TRADECO-C to 2099-12-31, and the files say CITYSUP-C to 2099-12-31"),
+            ("DELETE FROM leads WHERE unit = '2__SHOPS'", "unit 2__SHOPS from 2024-01-01: the table leads has nothing, and the files say CITYSUP-C to 2099-12-31"),
+            ("INSERT INTO leads VALUES ('2__SHOPS', 19905, 'TRADECO', 0, 19905)", "unit 2__SHOPS from 2024-07-01: the table leads has TRADECO-P to 2024-07-01, and the files say nothing"),
+        ):
+            with self.subTest(change):
+                database.write_bytes(whole)
+                with changing(database) as made:
+                    self.assertEqual(made.execute(change).rowcount, 1)
+                lines = self.shows("why", "--db", database, "TRADECO-P", DAY, "R1", status=1)
+                self.assertEqual([line for line in lines if line.startswith("! ")], [f"! {told}"])
+                self.assertEqual(lines[-1], "1 doesn't follow.")
+
     def test_postings(self):
         """What a run posted, and what its own row has counted."""
         database, draw = self.kept("market"), random.Random(2)

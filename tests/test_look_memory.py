@@ -4,10 +4,11 @@ kept offices and of an office that was asked a list of requests drawn at random.
 import collections
 import os
 import re
+import shutil
 import unittest
 import unittest.mock
 
-from kept_offices import MARKET_KEY, OFFICES, unpack
+from kept_offices import MARKET_KEY, OFFICES
 from killing import MoreRuns
 from looking import changing, look
 from programs import HOME, IS_LONG, SETTLE, settle
@@ -343,7 +344,7 @@ class WhereItIsUnlike(Both):
 
     def test_runs(self):
         for what, change in list(self.CHANGES.items())[: None if IS_LONG else 2]:
-            database = unpack("market", self.room / what)
+            database = shutil.copytree(self.kept("market").parent, self.room / what) / "office.db"
             with changing(database) as made:
                 made.execute(change)
             with self.subTest(what):

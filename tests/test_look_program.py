@@ -87,6 +87,14 @@ class Asking(Looking):
         self.begin(unittest.mock.patch.object(preview, "over_the_copy", self.over_the_copy(preview.over_the_copy)))
         self.begin(unittest.mock.patch.object(check, "enough_for", self.enough_for(check.enough_for)))
 
+    def kept(self, name):
+        """The file of a kept office that `settle migrate` has taken to the present version."""
+        path = self.room / name / "office.db"
+        if not path.exists():
+            made = settle("migrate", "--db", str(super().kept(name)))
+            self.assertEqual((made[0], made[2]), (0, b""))
+        return path
+
     def begin(self, patch):
         patch.start()
         self.addCleanup(patch.stop)

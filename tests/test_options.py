@@ -9,7 +9,7 @@ import unittest
 from programs import SETTLE, settle
 from test_command_faults import Faults
 from test_commands import answer
-from test_database import content_of, rows_of
+from test_database import VERSION, content_of, rows_of
 from test_desk import APPLIED, DAY, EARLY, OPERATOR, SETTLED, text_of
 from test_explain import MISSING, shown
 from test_program import CONTRACTS_HEADER, METER_HEADER, OfTheProgram
@@ -21,6 +21,7 @@ KEY_FILE, OPERATOR_KEY_FILE, EXPLAIN, STRICT = "--key-file", "--operator-key-fil
 COMMANDS = {
     "period": (["METER", "CONTRACTS", "PRICE"], [EXPLAIN]),
     "init": (["--db", "--operator-key", "--lead-minutes"], [OPERATOR_KEY_FILE, EXPLAIN]),
+    "migrate": (["--db"], [EXPLAIN]),
     "load": (["--db", "--key", "--at", "KIND", "FILE"], [KEY_FILE, EXPLAIN]),
     "run": (["--db", "--key", "--at", "DATE", "KIND"], [KEY_FILE, EXPLAIN]),
     "report": (["--db", "--key", "FORM", "DATE", "KIND"], [KEY_FILE, EXPLAIN]),
@@ -37,10 +38,11 @@ class Version(OfTheProgram):
         status, written, told = settle("--version")
         self.assertEqual((status, told), (0, b""))
         found = re.fullmatch(rb"settle (\d+\.\d+\.\d+), tables of version (\d+)\n", written)
-        self.assertEqual(found[1], b"1.0.0")
+        self.assertEqual(found[1], b"2.0.0")
+        self.assertEqual(int(found[2]), VERSION)
         office = str(self.room / "office.db")
         self.assertEqual(settle("init", "--db", office, "--operator-key", OPERATOR), answer("ready"))
-        self.assertEqual(rows_of(office, "settings"), [(1, int(found[2]), 60, OPERATOR)])
+        self.assertEqual(rows_of(office, "settings"), [(1, VERSION, 60, OPERATOR)])
 
     def test_other_words_beside_it(self):
         for words in (("--version", "x"), ("x", "--version"), ("--version", "--version"), ("--version=1",), ("period", "--version"), ("-V",), ("version",), ("--", "--version")):
@@ -143,7 +145,7 @@ class KeyFiles(Faults):
         for number, option in enumerate((("--operator-key-file", path), (f"--operator-key-file={path}",))):
             self.database = self.room / f"new{number}.db"
             self.assertEqual(self.command("init", *option, "--lead-minutes=5"), answer("ready"))
-            self.assertEqual(rows_of(self.database, "settings"), [(1, 1, 5, SECRET)])
+            self.assertEqual(rows_of(self.database, "settings"), [(1, VERSION, 5, SECRET)])
             script = self.file("secret", f"report {SECRET} balances\n")
             self.assertEqual(settle("script", *option, script), (0, b"account,moved_pence\n", b""))
             self.assertEqual(settle("script", script, *option), (0, b"account,moved_pence\n", b""))
@@ -220,8 +222,10 @@ class KeyFiles(Faults):
         self.assertEqual(self.command("report", "--key-file", "balances", cwd="/"), answer("fault file"))
 
     def test_commands_without_such_a_key(self):
-        """Each of the two options belongs only to its own commands, and `serve` and `period` have neither."""
+        """Each of the two options belongs only to its own commands, and `serve`, `migrate` and `period` have neither."""
         path = self.key_file()
+        self.is_wrong(self.command("migrate", "--key-file", path))
+        self.is_wrong(self.command("migrate", "--operator-key-file", path))
         self.is_wrong(self.command("serve", "--port=0", "--count=0", "--key-file", path))
         self.is_wrong(self.command("serve", "--port=0", "--count=0", "--operator-key-file", path))
         self.is_wrong(settle("period", "--key-file", path, self.prices, self.prices, "1"))
@@ -344,6 +348,7 @@ class WrongValues(Faults):
 
     GOOD = {
         "init": ["--db=new.db", f"--operator-key={OPERATOR}"],
+        "migrate": ["--db=new.db"],
         "load": ["--db=new.db", f"--key={OPERATOR}", "prices", "p.csv"],
         "run": ["--db=new.db", f"--key={OPERATOR}", DAY, "SF"],
         "report": ["--db=new.db", f"--key={OPERATOR}", "day", DAY, "SF"],

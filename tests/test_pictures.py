@@ -91,9 +91,9 @@ class Pictures(unittest.TestCase):
             self.assertLessEqual({above, below}, {one.name for one in self.specs.names(self.specs.place(relation))})
         self.assertRegex(self.definition("hh_file_life.specs.Life.ReadAs"), r"HoldsDatabase .* × TreesHold .*\(tables_of ")
         said = " ".join(words_in(pictures.levels()))
-        for count, number in (13, "thirteen tables"), (16, "sixteen tables"):
+        for count, number in (14, "fourteen tables"), (17, "seventeen tables"):
             self.assertIn(number, said)
-            self.assertEqual(count, len(self.tables()) + (len(pictures.BESIDE) if count == 16 else 0))
+            self.assertEqual(count, len(self.tables()) + (len(pictures.BESIDE) if count == 17 else 0))
 
     def tables(self):
         """The tables that an office contains."""
@@ -103,17 +103,20 @@ class Pictures(unittest.TestCase):
     def test_each_table_is_drawn(self):
         shown = words_in(pictures.tables())
         self.assertEqual([], [table for table in self.tables() if table not in shown])
-        schema = self.definition("hh_sqlrows.specs.OfficeSchema.office_tables")
+        schema = " ".join(self.definition(f"hh_sqlrows.specs.OfficeSchema.{tables}") for tables in ("tables_of_one", "office_tables"))
         in_database = re.findall(r"(\w+)_table\b", schema)
         drawn = [*self.tables(), *pictures.BESIDE]
         self.assertEqual(sorted(drawn), sorted("references" if table == "refs" else table for table in in_database))
 
     def test_which_tables_a_file_is_put_into(self):
-        """By the entries that rows of each kind put into each table."""
+        """By the entries that rows of each kind put into each table, or by what they make of it, row after row."""
         kinds = dict(re.findall(r"row_kind \(row\.(\w+) r\) = kind\.(\w+)", self.definition("hh_rows.specs.RowKinds.row_kind")))
         registered, put = self.definition("hh_rules.specs.History.registered_in"), {}
         for table, entry in re.findall(r"(\w+) = table_of_\w+ \w+ \(entries_of (\w+) ", registered):
             for row in re.findall(r"\(row\.(\w+) r\) = Some", self.definition(f"hh_rules.specs.Entries.{entry}")):
+                put.setdefault(kinds[row].lower(), []).append(table)
+        for table in re.findall(r"(\w+) = \w+_from \[\] history", registered):
+            for row in re.findall(rf"{table}_with_row \(row\.(\w+) r\)", self.definition(f"hh_registrations.specs.Registrations.{table}_with_row")):
                 put.setdefault(kinds[row].lower(), []).append(table)
         self.assertEqual(put, pictures.KINDS)
 

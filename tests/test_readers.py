@@ -64,12 +64,12 @@ class CheatSheet(OfTheProgram):
         serve and ask are in docs/start.md."""
         typed = [line.split("`")[1] for line in CHEAT_SHEET.splitlines() if re.match(r"\| [^|]* \| `(\./|curl)", line)]
         named = {name: {words.split()[1] for words in typed if words.startswith(f"./{name} ")} for name in ("settle", "look")}
-        self.assertEqual(named, {"settle": {"init", "load", "run", "report", "script", "serve"}, "look": {*commands.COMMANDS}})
+        self.assertEqual(named, {"settle": {"init", "migrate", "load", "run", "report", "script", "serve"}, "look": {*commands.COMMANDS}})
         for name, target in ("settle", SETTLE), ("look", HOME / "look"), ("examples", HOME / "examples"):
             (self.room / name).symlink_to(target)
         (self.room / "op.key").write_text("op-market001\n")
         lines = [words for words in typed if not re.search(r" serve |^curl|--help", words)]
-        self.assertEqual(len(lines), 20)
+        self.assertEqual(len(lines), 21)
         for words in sorted(lines, key=lambda words: (" init " not in words, " script " not in words)):
             self.ends(words)
         self.assertTrue((self.room / "run.html").stat().st_size > 10_000 and (self.room / "copy.db").exists())

@@ -7,6 +7,7 @@ import unittest
 
 import office_tables
 from programs import HOME
+from test_database import TABLES_OF_ONE
 
 PAGE = (HOME / "docs" / "sql.md").read_text(encoding="utf-8")
 TABLE = re.compile(r"(?m)^\| `(\w+)` \| ([^|]*) \| ([^|]*) \|$")
@@ -36,9 +37,16 @@ class Tables(unittest.TestCase):
 
     def test_of_the_page(self):
         listed = [(table, NAME.findall(key), NAME.findall(others)) for table, key, others in TABLE.findall(PAGE)]
-        self.assertEqual(len(listed), 16)
+        self.assertEqual(len(listed), 17)
         made = ((table, key, [column for column, _ in columns if column not in key]) for table, columns, key in office_tables.made())
         self.assertEqual(listed, list(made))
+
+    def test_the_table_that_came_last(self):
+        """Those of version 1 are the same tables without it, in the same order."""
+        *of_one, (leads, columns, key) = office_tables.made()
+        self.assertEqual((leads, key), ("leads", ["unit", "day_from"]))
+        self.assertEqual([column for column, _ in columns], ["unit", "day_from", "party", "side", "day_to"])
+        self.assertEqual([table for table, *_ in of_one], TABLES_OF_ONE)
 
     def test_as_sqlite_reads_them(self):
         connection = sqlite3.connect(":memory:")

@@ -1,6 +1,6 @@
 """The database files in `versions`, which the program of an earlier commit has made. `sqlite3` reads in each what its office was
-asked, and the program opens a copy of each: its reports, its answers to what the office was asked before, and those to what it
-is asked next. The figures of the two parties' days are worked out by hand. Those of the market and of the week were printed on
+asked. The program refuses a copy of each until `settle migrate` has taken it to the present version. Then it opens the copy: its
+reports, its answers to what the office was asked before, and those to what it is asked next. The figures of the two parties' days are worked out by hand. Those of the market and of the week were printed on
 the guide's pages. All others are those of `bench/peer_office.py`, which is given the rows that come in time. The files of rows
 are those that the databases have, so the examples may change."""
 import contextlib
@@ -19,7 +19,7 @@ from kept_offices import ENDS, FOLDER, OFFICES, packed, unpack
 from programs import SETTLE, need, settle
 from test_both_stores import Outcome, nets_of
 from test_commands import FIRST, answer, results_of, words_of
-from test_database import KINDS, TABLES, content_of, rows_of
+from test_database import KINDS, TABLES, TABLES_OF_ONE, VERSION, content_of, content_of_any, leads_of, rows_of
 from test_desk import APPLIED, DAY, DEARER, LOADED, SETTLED
 from test_memory import HEADS, account_line
 from test_reports import BALANCES, DAY_REPORT, RESULTS
@@ -28,6 +28,7 @@ from test_week import Peer
 # The tables that are no part of what an office contains.
 BESIDE = ("positions", "touched", "marks")
 LATER = 1_735_689_600
+MIGRATED, STORE = answer(f"version {VERSION}"), answer("refused 91 Store")
 # The header of a log has this many bytes, and that of each page in it this many.
 LOG_HEADER, PAGE_HEADER, PAGE = 32, 24, 4_096
 UNCHANGED = DEARER.replace("6060", "5050").replace("postings 2", "postings 0")
@@ -127,7 +128,7 @@ def room():
 @functools.cache
 def content(name):
     """All rows of an office's file with its log, before the program opens it."""
-    return content_of(unpack(name, room() / "read" / name))
+    return content_of(unpack(name, room() / "read" / name), TABLES_OF_ONE)
 
 
 @functools.cache
@@ -191,9 +192,11 @@ class Wanted:
         return found
 
     def content(self):
-        """The rows of each table that the peer keeps as the office does, and of those that are updated beside them."""
-        tables = TABLES.keys() - {"settings", "files", *BESIDE}
+        """The rows of each table that the peer keeps as the office does, of the registrations of its units, and of the tables that are
+        updated beside them."""
+        tables = TABLES.keys() - {"settings", "files", "leads", *BESIDE}
         found = {table: sorted(self.rows(f"SELECT * FROM {table}")) for table in tables}
+        found["leads"] = leads_of(found["units"])
         found["positions"] = nets_of(found["refs"], found["contracts"])
         found["touched"] = sorted(self.outcome.touched)
         return found
@@ -234,21 +237,23 @@ class Files(unittest.TestCase):
 
     def test_they_are_sound(self):
         """The program's tables of version 1, in files that are whole."""
-        columns = {table: [word.partition(":")[0] for word in text.split()] for table, (_, text) in TABLES.items()}
+        columns = {table: [word.partition(":")[0] for word in TABLES[table][1].split()] for table in TABLES_OF_ONE}
         for name, office in OFFICES.items():
             with self.subTest(name):
                 database = unpack(name, room() / "sound" / name)
                 with contextlib.closing(sqlite3.connect(database)) as connection:
                     self.assertEqual(connection.execute("PRAGMA integrity_check").fetchall(), [("ok",)])
-                    tables = {table: [row[1] for row in connection.execute(f"PRAGMA table_info({table})")] for table in TABLES}
-                self.assertEqual(tables, columns)
+                    names = [name for (name,) in connection.execute("SELECT name FROM sqlite_schema WHERE type = 'table'")]
+                    tables = {table: [row[1] for row in connection.execute(f"PRAGMA table_info({table})")] for table in names}
+                self.assertEqual((names, tables), (TABLES_OF_ONE, columns))
                 self.assertEqual(content(name)["settings"], [(1, 1, office.lead_minutes, office.operator)])
 
     def test_rows(self):
         """They are what the office was asked."""
         for name, office in OFFICES.items():
-            found = content(name)
-            for table, rows in wanted(name).content().items():
+            found, kept = content(name), wanted(name).content()
+            self.assertEqual(kept.keys() - found.keys(), {"leads"}, "which version 1 didn't have")
+            for table, rows in ((table, kept[table]) for table in kept.keys() & found.keys()):
                 with self.subTest(f"{name} {table}"):
                     if table in BESIDE and not office.has_positions:
                         self.assertEqual(found[table], [])
@@ -340,8 +345,8 @@ class ByHand(unittest.TestCase):
         self.assertEqual(NEXT.keys(), OFFICES.keys())
 
 
-class Opened(unittest.TestCase):
-    """Copies of the files, which the program opens."""
+class OfTheFiles(unittest.TestCase):
+    """A test with copies of the files in a folder of its own."""
 
     @classmethod
     def setUpClass(cls):
@@ -352,9 +357,15 @@ class Opened(unittest.TestCase):
         self.addCleanup(folder.cleanup)
         self.room = pathlib.Path(folder.name)
 
-    def opened(self, name):
+    def unpacked(self, name):
         """The path of a copy that no other test has opened."""
         return unpack(name, self.room / name)
+
+    def opened(self, name):
+        """The path of such a copy, which is of the present version."""
+        database = self.unpacked(name)
+        self.assertEqual(self.command(database, "migrate"), MIGRATED, name)
+        return database
 
     def command(self, database, name, *words):
         return settle(name, "--db", str(database), *words)
@@ -365,7 +376,7 @@ class Opened(unittest.TestCase):
             copy = pathlib.Path(shutil.copytree(database.parent, pathlib.Path(folder) / "copy")) / database.name
             with contextlib.closing(sqlite3.connect(copy)) as connection:
                 self.assertEqual(connection.execute("PRAGMA integrity_check").fetchall(), [("ok",)])
-            return content_of(copy)
+            return content_of_any(copy)
 
     def compare(self, made, text, about):
         """A command is done, and has written this. The first line that differs is named, since the texts are long."""
@@ -383,10 +394,16 @@ class Opened(unittest.TestCase):
         for form in ("day", "csv"):
             self.assertEqual(self.command(database, "report", "--key", key, form, DAY, "DF"), answer("refused 63 NoRun"), name)
 
+    def as_migrated(self, name):
+        """All rows that are wanted of an office that was taken to the present version. Each unit has one registration, from its first
+        date to its last."""
+        found, office = dict(content(name)), OFFICES[name]
+        return {**found, "leads": leads_of(found["units"]), "settings": [(1, VERSION, office.lead_minutes, office.operator)]}
+
     def as_opened(self, name):
-        """All rows that are wanted once the program has opened the office and changed nothing. If no positions were kept it has
-        made them, and each period of each run counts as touched."""
-        found = dict(content(name))
+        """The same once another command has opened the office and changed nothing. If no positions were kept it has made them, and each
+        period of each run counts as touched."""
+        found = self.as_migrated(name)
         if not OFFICES[name].has_positions:
             counts = {day: periods for day, _, periods, *_ in found["runs"]}
             nets = nets_of(found["refs"], found["contracts"])
@@ -395,8 +412,58 @@ class Opened(unittest.TestCase):
             found["marks"] = [(1, 1)]
         return found
 
+
+class Migrated(OfTheFiles):
+    """Each file is of version 1, until `settle migrate` has taken it to the present version."""
+
+    def test_refused_before(self):
+        """By each other command. A file without a log keeps its bytes, and one with a log its rows, as `sqlite3` reads both. After
+        that it migrates as if nothing had been asked."""
+        script = self.room / "nothing.script"
+        script.write_bytes(b"")
+        for name, office in OFFICES.items():
+            with self.subTest(name):
+                database = self.unpacked(name)
+                before = database.read_bytes()
+                self.assertEqual(database.with_name("office.db-wal").exists(), office.has_positions)
+                for words in (
+                    ("report", "--key", office.operator, "balances"),
+                    ("report", "--key", office.operator, "day", DAY, "SF"),
+                    ("load", "--key", office.operator, "prices", str(files() / "p2.csv")),
+                    ("run", "--key", office.operator, DAY, "SF"),
+                    ("serve", "--port=0", "--count=0"),
+                    ("script", str(script)),
+                ):
+                    self.assertEqual(self.command(database, *words), STORE, words)
+                    self.assertEqual(self.content(database), content(name))
+                    if not office.has_positions:
+                        self.assertEqual(database.read_bytes(), before)
+                self.assertEqual(self.command(database, "migrate"), MIGRATED)
+                self.assertEqual(self.content(database), self.as_migrated(name))
+
+    def test_twice(self):
+        """The second time nothing changes. Positions that weren't kept aren't written."""
+        for name in OFFICES:
+            with self.subTest(name):
+                database = self.unpacked(name)
+                for _ in range(2):
+                    self.assertEqual(self.command(database, "migrate"), MIGRATED)
+                    self.assertEqual(self.content(database), self.as_migrated(name))
+
+    def test_what_is_in_the_file_by_itself(self):
+        """A command that ends copies the log into the file, also what a killed service had left there."""
+        for name in OFFICES:
+            with self.subTest(name):
+                database = self.opened(name)
+                alone = shutil.copy(database, self.room / f"{name}-alone.db")
+                self.assertEqual(content_of_any(alone), self.as_migrated(name))
+
+
+class Opened(OfTheFiles):
+    """Copies of the files that were taken to the present version, which the program opens."""
+
     def test_reports(self):
-        """They change no row."""
+        """They print what they printed before, and change no row."""
         for name in OFFICES:
             with self.subTest(name):
                 database = self.opened(name)
@@ -451,16 +518,16 @@ class Opened(unittest.TestCase):
         isn't there."""
         for name in ("killed", "killed-writing"):
             with self.subTest(name):
-                database = self.opened(name)
-                log = database.with_name("office.db-wal")
-                self.assertGreater(log.stat().st_size, 0)
+                database = self.unpacked(name)
                 alone = shutil.copy(database, self.room / f"{name}-alone.db")
                 self.assertEqual(rows_of(alone, "runs"), [])
+                self.assertGreater(database.with_name("office.db-wal").stat().st_size, 0)
+                self.assertEqual(self.command(database, "migrate"), MIGRATED)
                 self.assertNotEqual(self.command(database, "report", "--key", OFFICES[name].operator, "balances")[1], b"")
                 shutil.copy(database, alone)
                 self.assertEqual(sorted(rows_of(alone, "runs")), wanted(name).content()["runs"])
                 self.assertEqual(sorted(rows_of(alone, "prices")), wanted(name).content()["prices"])
-                self.assertEqual(content_of(alone), content(name))
+                self.assertEqual(content_of(alone), self.as_opened(name))
 
 
 if __name__ == "__main__":

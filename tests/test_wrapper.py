@@ -30,6 +30,7 @@ USAGE = (
     "script --operator-key KEY [--lead-minutes N] [--strict] FILE",
     "script --db PATH [--strict] FILE",
     "init --db PATH --operator-key KEY [--lead-minutes N]",
+    "migrate --db PATH",
     "load --db PATH --key KEY [--at SECONDS] KIND FILE",
     "run --db PATH --key KEY [--at SECONDS] DATE KIND",
     "report --db PATH --key KEY FORM [DATE KIND]",

@@ -20,13 +20,12 @@ from test_index import LAYERS, rows_of
 TRY = HOME / "tools" / "wrong_bodies.py"
 BY_HAND = sorted(HOME.glob("crates/*/must-fail-by-hand/*.edit"))
 # Calls that `settle` doesn't make: those for a single row, for a list of requests, for a date, for devices in memory, for a
-# script over a new office in a database, and for commands over files of the disk model, with the parts of these. And those for
-# the registrations of units, which no office keeps yet.
+# script over a new office in a database, and for commands over files of the disk model, with the parts of these. And the one for
+# the account that leads a unit on a date, which no command asks for yet.
 OFFERED = {
     "check_row", "apply_row", "run_all", "day_of", "day_number", "date_at", "in_pieces", "run_in_new_database",
     "answer", "answer_over",
-    "registered_lead_on", "last_begun", "former_lead", "widened", "put_lead", "last_up_to", "last_before", "begun_by",
-    "step_to_two", "add_leads", "commit_two", "write_two", "leads_of_units", "lead_of",
+    "registered_lead_on",
 }
 # What the language calls without naming it.
 UNNAMED = {"main", "fmt", "cmp", "partial_cmp", "eq", "from", "next", "clone", "drop", "default"}

@@ -6,6 +6,7 @@ usage: settle period METER CONTRACTS PRICE
        settle script --operator-key KEY [--lead-minutes N] [--strict] FILE
        settle script --db PATH [--strict] FILE
        settle init --db PATH --operator-key KEY [--lead-minutes N]
+       settle migrate --db PATH
        settle load --db PATH --key KEY [--at SECONDS] KIND FILE
        settle run --db PATH --key KEY [--at SECONDS] DATE KIND
        settle report --db PATH --key KEY FORM [DATE KIND]

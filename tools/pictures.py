@@ -33,8 +33,8 @@ STYLE = """\
 # Each level with what it has. Between each two a relation. Behind a name is the file that defines or cites it, and what it says.
 LEVELS = [
     ("Machine", "hh_states/States State", "all that was accepted, with its moments, and the runs"),
-    ("Tables", "hh_states/Content Content", "thirteen tables: what is registered, in force, settled and posted"),
-    ("Database", "hh_sqlrows/OfficeSchema office", "sixteen tables of SQLite, as the last commit left them"),
+    ("Tables", "hh_states/Content Content", "fourteen tables: what is registered, in force, settled and posted"),
+    ("Database", "hh_sqlrows/OfficeSchema office", "seventeen tables of SQLite, as the last commit left them"),
     ("Files", "hh_file_life/Life ReadAs", "the bytes of the database and of its log, as a crash may leave them"),
 ]
 RELATIONS = [
@@ -45,7 +45,7 @@ RELATIONS = [
 # Which tables the rows of each kind of file are put into. Each file is also kept in `files`.
 KINDS = {
     "parties": ["parties"],
-    "units": ["units"],
+    "units": ["units", "leads"],
     "meters": ["meters"],
     "prices": ["prices"],
     "contracts": ["references", "contracts"],
@@ -166,7 +166,7 @@ def tables():
     read = "; ".join(f"the report {report} reads {' and '.join(of)}" for report, of in REPORTS.items())
     told = f"{told}. Each accepted file is kept in files, and what init is given in settings. A run reads the tables of rows,"
     told = f"{told} and the results of the run before. It writes {', '.join(WRITTEN)}; {read}. A database also has {', '.join(BESIDE)}."
-    picture = Picture(980, 560, "From files to tables to reports", told)
+    picture = Picture(980, 608, "From files to tables to reports", told)
     picture.words(20, 30, "From files to tables to reports", size=16, weight="bold")
     for x, said in (30, "kind of file"), (250, "tables of what is registered and in force"), (560, "tables of runs"), (800, "report"):
         picture.words(x, 62, said, "faint", 12)
@@ -184,7 +184,7 @@ def tables():
         picture.words(30, places[table] + 20, said, "faint", 12)
         picture.line(f"M205 {places[table] + 16}H248")
     said = f"A database calls references refs. It also has {', '.join(BESIDE)}, so that a run settles again only what has changed."
-    picture.words(30, 546, said, "faint", 12)
+    picture.words(30, 594, said, "faint", 12)
     top, bottom = places[kept[0]] + 16, places[kept[-1]] + 16
     middle = (top + bottom) / 2
     picture.line(f"M430 {top}V{bottom}", head=False)

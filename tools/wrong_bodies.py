@@ -38,6 +38,8 @@ PROOF_ERROR = re.compile(r"proofs/([\w/]+)/(?:Answers|Invariants|Proof)\.antt:\d
 FALSE_FACT = re.compile(r"(?m)^\./proofs/(\w+)\.antt:\d+:\d+: error: `(\w+)`: [^\n]*the two types differ")
 # A function that is proved by such a fact: the file, the fact, and the function's name.
 PROVED_BY = re.compile(r"using\(crate::proofs::(\w+)::(\w+)\)\)\]\n *(?:pub(?:\(crate\))? )?fn (\w+)")
+# How a check ends that judged the functions that it was asked for, or all of them.
+JUDGED = re.compile(r"(?m)^(?:logic=not-proved|only=\d+ proved=\d+)")
 # What an error says of a proof that names what is not there, or that rests on what another error is on.
 NO_VERDICT = re.compile(r"has no field|is not in scope|has no `|was not admitted|declarations? that depends? on")
 # What an error says of a proof where the body no longer leaves anything to prove: any body would do.
@@ -174,15 +176,26 @@ def restore(copy, crate):
     return folder
 
 
+def check_of(folder, functions):
+    """What a check says of these functions alone and of those that they call. Each is named by its type, where it has one. A method of a
+    trait is not found so: then all functions of the modules are checked."""
+    named, modules = {f"{kind or module}::{name}" for module, kind, name in functions}, {module for module, _, _ in functions}
+    for paths in named, modules:
+        words = ["rt", "check", *(word for path in sorted(paths) for word in ("--only", path))]
+        said = subprocess.run(words, cwd=folder, stdout=subprocess.PIPE, stderr=subprocess.STDOUT, text=True, errors="replace").stdout
+        if "has no function" not in said:
+            break
+    return said
+
+
 def unproved(copy, batch):
     """The functions that are not proved once the bodies of a batch are in place, and what the check said. None in place of the functions
     where the compiler refused the bodies, so that no contract was tried."""
     folder = restore(copy, batch.crate)
     for file, text in batch.texts.items():
         (folder / file).write_text(text, encoding="utf-8")
-    ran = subprocess.run(["rt", "check"], cwd=folder, stdout=subprocess.PIPE, stderr=subprocess.STDOUT, text=True, errors="replace")
-    is_judged = re.search(r"(?m)^logic=not-proved", ran.stdout) is not None
-    return set(told_of(folder, ran.stdout)) if is_judged else None, ran.stdout
+    said = check_of(folder, batch.edits)
+    return set(told_of(folder, said)) if JUDGED.search(said) else None, said
 
 
 def is_told(function, names):

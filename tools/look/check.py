@@ -49,6 +49,7 @@ def tell(_, asked):
         raise Fault(f"{asked.file}: a file's name has 1 to 64 letters, digits, points, underscores and dashes")
     with copied(asked.db) as copy:
         with opened_copy(copy, asked.db) as office:
+            office.judge_for_program()
             key = key_for(office, asked.key_file)
             held = held_under(office, asked.rows, name)
             names = name, free_name(office)

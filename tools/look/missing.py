@@ -18,7 +18,7 @@ def tell(office, asked):
     held = dict(office.prices(day))
     prices = [period for period in periods if period not in held]
     held = set(office.rows("SELECT unit, period FROM meters WHERE day = ?", day))
-    units = {name: unit for name, unit in office.units().items() if unit.first <= day <= unit.last}
+    units = office.units_on(day)
     readings = {name: [period for period in periods if (name, period) not in held] for name in units}
     lines = [f"{clock.date_of(day)}, a {clock.weekday_of(day)}: {counted(len(periods), 'period')}, {counted(len(units), 'unit')}"]
     if prices:

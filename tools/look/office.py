@@ -12,7 +12,7 @@ from .copying import copied
 from .rules import Unit
 from .telling import Fault
 
-VERSION = 1  # of the tables that are read here
+VERSIONS = 1, 2  # of the tables that are read here. The program opens the last
 LARGE = 1 << 22  # bytes of an office's file
 MAPPED = 1 << 30  # bytes of a copy that are read without a call for each page
 KINDS = ("SF", "R1", "R2", "R3", "RF", "DF")
@@ -69,7 +69,7 @@ class Office:
 
     def __init__(self, connection, path, copy, works):
         self.connection, self.path, self.copy, self.works = connection, path, copy, works
-        self.lead_minutes = self.settings()
+        self.version, self.lead_minutes = self.settings()
 
     def beside(self, find):
         """What `find` gives of the same copy, which a process of its own opens."""
@@ -86,7 +86,7 @@ class Office:
         return os.path.getsize(self.copy) >= LARGE
 
     def settings(self):
-        """The lead time of an office whose tables are of the version that is read here."""
+        """The version of the tables, which is one of those that are read here, and the office's lead time."""
         try:
             rows = self.connection.execute("SELECT version, lead_minutes FROM settings").fetchall()
         except sqlite3.Error:
@@ -94,9 +94,16 @@ class Office:
         if len(rows) != 1:
             raise Fault(f"{self.path}: it is no office's file: its settings have {len(rows)} rows")
         version, lead_minutes = rows[0]
-        if version != VERSION:
-            raise Fault(f"{self.path}: its tables are of version {version}, and only those of version {VERSION} are read here")
-        return lead_minutes
+        if version not in VERSIONS:
+            read = " and ".join(map(str, VERSIONS))
+            raise Fault(f"{self.path}: its tables are of version {version}, and only those of versions {read} are read here")
+        return version, lead_minutes
+
+    def judge_for_program(self):
+        """Whether the program opens the office, and answers what it is asked."""
+        if self.version != VERSIONS[-1]:
+            told = f"its tables are of version {self.version}, which the program doesn't open; `settle migrate` makes them usable"
+            raise Fault(f"{self.path}: {told}")
 
     def rows(self, statement, *values):
         return self.connection.execute(statement, values).fetchall()
@@ -138,6 +145,19 @@ class Office:
     def units(self):
         """All units by their names, in the order of their names."""
         return {unit: Unit((party, side), bool(mark), *days) for unit, party, side, mark, *days in self.unit_rows()}
+
+    def units_on(self, day):
+        """The units of a day by their names, in the order of their names, with the account that leads each on that day."""
+        leads = {unit: lead for (unit, first), (lead, last) in self.registrations().items() if first <= day <= last}
+        there = {name: unit for name, unit in self.units().items() if unit.first <= day <= unit.last}
+        return {name: unit._replace(lead=leads.get(name, unit.lead)) for name, unit in there.items()}
+
+    def registrations(self):
+        """The account that leads a unit from a day on and the last of these days, under the unit and the first. In version 1 there is
+        one for each unit."""
+        of_one = "SELECT unit, day_from, party, side, day_to FROM units ORDER BY unit"
+        asked = of_one if self.version == 1 else of_one.replace("units", "leads").replace("BY unit", "BY unit, day_from")
+        return {(unit, first): (self.account(party, side), last) for unit, first, party, side, last in self.rows(asked)}
 
     def unit_rows(self):
         """A unit, the party and the side of its lead account, whether it is an interconnector's, and its first and last day."""

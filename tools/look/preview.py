@@ -30,6 +30,7 @@ def tell(_, asked):
     moment = moment_of(asked)
     with copied(asked.db) as copy:
         with opened_copy(copy, asked.db) as office:
+            office.judge_for_program()
             key = key_for(office, asked.key_file)
             was_made = asked.kind in office.runs(asked.date)
             told = None if asked.whole or was_made else in_memory(office, copy, key, moment, asked)

@@ -3,7 +3,8 @@
 from .accepted import CONTRACTS, METERS, PARTIES, PRICES, REALLOCATIONS, UNITS, cited
 from .beside import sum_of
 from .columns import NOTHING, Held, Keys, held_by_period
-from .inputs import named, valued
+from .inputs import date_or_number, named, valued
+from .office import name_of
 
 
 def held(office, day, period=None):
@@ -50,7 +51,7 @@ def sums_of(kinds):
 
 def departures(office, inputs, sums):
     """A line for each row in force that isn't the one that the files give. `sums` are those of the tables, if they are known."""
-    accepted, lines = inputs.accepted, list(inputs.accepted.miscounts)
+    accepted, lines = inputs.accepted, [*inputs.accepted.miscounts, *registrations_apart(office, inputs)]
     if sums is not None and sums == sums_of(inputs.held):
         return lines
     for kind, periods in held(office, accepted.day, accepted.period).items():
@@ -59,6 +60,25 @@ def departures(office, inputs, sums):
             if not one.is_same(other):
                 lines += [departure(accepted, kind, (period, key), one.values.get(key)) for key in apart(one.values, other.values)]
     return lines
+
+
+def registrations_apart(office, inputs):
+    """A line for each registration that isn't the one of its unit's rows: from the unit's first day to its last. Version 1 keeps none."""
+    if office.version == 1:
+        return []
+    kept, wanted = office.registrations(), {(name, unit.first): (unit.lead, unit.last) for name, unit in inputs.units.items()}
+    return [
+        f"unit {unit} from {date_or_number(first)}: the table leads has {led(kept, unit, first)}, and the files say {led(wanted, unit, first)}"
+        for unit, first in apart(kept, wanted)
+    ]
+
+
+def led(registrations, unit, first):
+    """What a registration says."""
+    if (unit, first) not in registrations:
+        return "nothing"
+    lead, last = registrations[unit, first]
+    return f"{name_of(lead)} to {date_or_number(last)}"
 
 
 def apart(one, other):

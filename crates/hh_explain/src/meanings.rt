@@ -61,7 +61,7 @@ pub fn refused(fault: &Fault) -> &'static str {
         Refusal::BodyTooLarge => "the body has too many bytes",
         Refusal::Memory => "the system refused memory",
         Refusal::Store => {
-            "the database can't be used, as when another program has it open, an earlier version made it, or it is no office's"
+            "the database can't be used, as when another program has it open, an earlier version made it (settle migrate makes it usable), or it is no office's"
         }
     }
 }

@@ -7,7 +7,7 @@ use Rattle.hh_host.specs.Views.{HostView}
 use Rattle.hh_session.specs.Errands.{ErrandStep}
 use Rattle.hh_kept_office.specs.declared.path.PathStop.{PathStop}
 use Rattle.hh_kept_office.specs.declared.scripts.ScriptPathStop.{ScriptPathStop}
-use Rattle.hh_kept_office.specs.Paths.{EndsAt, MakesAt}
+use Rattle.hh_kept_office.specs.Paths.{EndsAt, MakesAt, MigratesAt}
 use Rattle.hh_kept_office.specs.Places.{Places, any_places}
 use Rattle.hh_kept_office.specs.Scripts.{EndsScript}
 use Rattle.hh_kept_office.proofs.PathLaws.{put_then}
@@ -18,6 +18,11 @@ module _ (places : Places) (path : List _) (device : DeviceChange) where
   makes_any settings result (inr (inl (is, found, same))) = inr (inl (is, tt, same))
   makes_any settings result (inr (inr (absent, (found, left, ended, opens, put, is, more)))) =
       inr (inr (tt, (found, left, ended, tt, put_then (places.closes path left) (places.discards path left) ⊤ ⊤ (λ known. tt) (λ known. tt) ended put, is, more)))
+
+  pub migrates_any : (result : Result Unit PathStop) → MigratesAt places path device result → MigratesAt any_places path device result
+  migrates_any result (inl (fault, refused, is, same)) = inl (fault, tt, is, same)
+  migrates_any result (inr (inl (is, found, same))) = inr (inl (is, tt, same))
+  migrates_any result (inr (inr (present, (found, left, ended, opens, closes, is, more)))) = inr (inr (tt, (found, left, ended, tt, tt, is, more)))
 
   pub ends_any : (host : HostView) (step : ErrandStep) (result : Result Unit PathStop) → EndsAt places path device host step result
       → EndsAt any_places path device host step result

@@ -2,15 +2,17 @@
 use Rattle.std.proofs.Common.{◌≡◌, ◌≢◌, ◌∙◌, ℕ, List, Option, refl, ap, Result, Ok, Err}
 use Rattle.std.specs.Prelude.{IfErr, IsErrAnd, IsErrOf, IsTrue, OnOk}
 use Rattle.std.specs.Io.KnownBytes.{Appends}
+use Rattle.sqlite.specs.State.{HasCleanDisk, State}
 use Rattle.hh_devices.specs.DeviceChanges.{DeviceChange}
 use Rattle.hh_devices.specs.Devices.{AppendsFront}
 use Rattle.hh_rows.specs.declared.settings.Settings.{Settings}
 use Rattle.hh_session.specs.errand.ErrandStop.{ErrandStop}
 use Rattle.hh_session.specs.errand.ErrandStop.TheVariants as stop
+use Rattle.hh_sqlmigration.specs.Versions.{IsMigrated}
 use Rattle.hh_sqlstore.specs.Holds.{IsNewOffice}
-use Rattle.hh_kept_office.specs.Kept.{ready_line}
-use Rattle.hh_kept_office.specs.Paths.{IsPutAway, MakesKept}
-use Rattle.hh_kept_office.specs.Places.{Connected, LeavesConnected, Places}
+use Rattle.hh_kept_office.specs.Kept.{IsRefusedByStore, ready_line, version_line}
+use Rattle.hh_kept_office.specs.Paths.{IsPutAway, MakesKept, MigratesKept}
+use Rattle.hh_kept_office.specs.Places.{Connected, LeavesConnected, MigratesConnected, Places, connected}
 
 -- the result is the error that is known
 pub err_is : {A E : Type 0} (result : Result A E) (e : E) → IsErrAnd result (λ x. x ≡ e) → result ≡ Err e
@@ -59,3 +61,30 @@ made places path device settings found left (Err stop.Output) is_made told untol
 made places path device settings found left (Err (stop.Refused fault)) is_made told untold cut undone same = (undone (refused_else fault), same (refused_else fault))
 made places path device settings found left (Err stop.Unreadable) is_made told untold cut undone same = (undone unreadable_else, same unreadable_else)
 made places path device settings found left (Err stop.NoSocket) is_made told untold cut undone same = (undone no_socket_else, same no_socket_else)
+
+-- what a connection shows of its office that was taken to the present version
+shows_migrated : (old new : State) → IsMigrated old new → MigratesConnected (connected old) (connected new)
+shows_migrated old new is up = (
+  is.was_open,
+  is.settled,
+  record { is_office = is.is_office; kept = is.kept; settings = is.settings; from_one = is.from_one; from_present = is.from_two; mark = is.mark; beside = is.beside },
+)
+
+-- an office in a database was taken to the present version, or it was refused
+pub migrated : (places : Places) (path : _) (device : DeviceChange) (old new : State) → (IsTrue new.is_open → HasCleanDisk new) → (ended : Result Unit ErrandStop)
+    → (HasCleanDisk new → OnOk ended (IsMigrated old new)) → OnOk ended (Appends device.old device.new version_line)
+    → (IsErrOf ended stop.Output → HasCleanDisk new → IsMigrated old new)
+    → (IsErrOf ended stop.Output → AppendsFront device.old device.new version_line)
+    → IfErr ended (λ why. why ≢ stop.Output → IsRefusedByStore why)
+    → IfErr ended (λ why. why ≢ stop.Output → LeavesConnected (connected old) (connected new)) → IfErr ended (λ why. why ≢ stop.Output → device.new ≡ device.old)
+    → MigratesKept places path device (connected old) (connected new) ended
+migrated places path device old new clean (Ok x) is_migrated told untold cut refused undone same =
+    ((λ up. shows_migrated old new (is_migrated (clean up)) up), told)
+migrated places path device old new clean (Err stop.Output) is_migrated told untold cut refused undone same =
+    ((λ up. shows_migrated old new (untold refl (clean up)) up), cut refl)
+migrated places path device old new clean (Err (stop.Refused fault)) is_migrated told untold cut refused undone same =
+    (refused (refused_else fault), undone (refused_else fault), same (refused_else fault))
+migrated places path device old new clean (Err stop.Unreadable) is_migrated told untold cut refused undone same =
+    (refused unreadable_else, undone unreadable_else, same unreadable_else)
+migrated places path device old new clean (Err stop.NoSocket) is_migrated told untold cut refused undone same =
+    (refused no_socket_else, undone no_socket_else, same no_socket_else)

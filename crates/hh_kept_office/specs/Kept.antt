@@ -3,6 +3,7 @@ use Rattle.std.specs.Prelude.{◌≡◌, ◌⊎◌, ℕ, List, Result, Err, code
 use Rattle.sqlite.specs.Effect.{Database}
 use Rattle.jiff.specs.declared.tz.timezone.TimeZone.{TimeZone}
 use Rattle.hh_devices.specs.DeviceChanges.{DeviceChange}
+use Rattle.hh_rows.specs.declared.settings.Settings.{Settings}
 use Rattle.hh_states.specs.Content.{Content}
 use Rattle.hh_store.specs.declared.store_fault.StoreFault.{StoreFault}
 use Rattle.hh_store.specs.StoreFaults.{store_fault}
@@ -10,7 +11,9 @@ use Rattle.hh_host.specs.Views.{HostView}
 use Rattle.hh_session.specs.errand.ErrandStop.{ErrandStop}
 use Rattle.hh_session.specs.errand.ErrandStop.TheVariants as stop
 use Rattle.hh_session.specs.Errands.{EndsErrand, ErrandStep}
-use Rattle.hh_sqlstore.specs.Holds.{Holds}
+use Rattle.hh_sqlrows.specs.Contents.{beside_in, mark_in}
+use Rattle.hh_sqlrows.specs.Office.{IsOffice}
+use Rattle.hh_sqlstore.specs.Holds.{HasSettings, Holds}
 use Rattle.hh_sqlstore.specs.Values.{version}
 use Rattle.hh_session.specs.Script.{IsMarketZone}
 use Rattle.hh_session.specs.Views.{OfficeView}
@@ -41,6 +44,25 @@ module _ (host : HostView) (fails : Type 0) (device : DeviceChange) where
   EndsKept found left step result =
       ((before : Content) × Holds version before found × LeavesKept before left step result) ⊎ IsNotTaken found left result
 
+-- a command was refused for a fault of a store
+abbrev pub IsRefusedByStore : ErrandStop → Type 0
+IsRefusedByStore why = (fault : StoreFault) × (why ≡ stop.Refused (store_fault fault))
+
+-- A database has become that of an office of the present version, with settings that name it. If it contained the content of an office of
+-- version 1, it contains the same content. If it was of the present version, it is as it was. What is kept beside the content is as it was.
+pub record BecomesPresent (old new : Database) : Type 0 where
+  pub is_office : IsOffice new
+  pub kept : Settings
+  pub settings : HasSettings version kept new.trees
+  pub from_one : (content : Content) → Holds 1 content old → Holds version content new
+  pub from_present : (content : Content) → Holds version content old → new ≡ old
+  pub mark : mark_in new.trees ≡ mark_in old.trees
+  pub beside : beside_in new.trees ≡ beside_in old.trees
+
 -- what is told when an office was made
 abbrev pub ready_line : List ℕ
 ready_line = codes "ready\n"
+
+-- what is told when an office was taken to the present version
+abbrev pub version_line : List ℕ
+version_line = codes "version 2\n"

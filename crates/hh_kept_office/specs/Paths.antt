@@ -13,8 +13,8 @@ use Rattle.hh_session.specs.Errands.{ErrandStep}
 use Rattle.hh_sqlstore.specs.Holds.{IsNewOffice}
 use Rattle.hh_kept_office.specs.declared.path.PathStop.{PathStop}
 use Rattle.hh_kept_office.specs.declared.path.PathStop.TheVariants.{Errand, Exists, NoFile}
-use Rattle.hh_kept_office.specs.Places.{Connected, LeavesConnected, Places}
-use Rattle.hh_kept_office.specs.Kept.{EndsKept, ready_line}
+use Rattle.hh_kept_office.specs.Places.{Connected, LeavesConnected, MigratesConnected, Places}
+use Rattle.hh_kept_office.specs.Kept.{EndsKept, IsRefusedByStore, ready_line, version_line}
 
 -- the fault of a command if a database is not opened
 abbrev pub unopened_stop : StoreFault → PathStop
@@ -49,6 +49,13 @@ module _ (places : Places) (path : List ℕ) (device : DeviceChange) where
       (IsTrue left.is_open → IsNewOffice settings left.committed) × AppendsFront device.old device.new ready_line
   MakesKept settings found left (Err why) = LeavesConnected found left × WritesNothing
 
+  -- The office in a database that was `found` when opened and is `left` when closed was taken to the present version, and that is told. Or
+  -- it was refused.
+  abbrev pub MigratesKept : Connected → Connected → Result Unit ErrandStop → Type 0
+  MigratesKept found left (Ok x) = MigratesConnected found left × Appends device.old device.new version_line
+  MigratesKept found left (Err stop.Output) = MigratesConnected found left × AppendsFront device.old device.new version_line
+  MigratesKept found left (Err why) = IsRefusedByStore why × LeavesConnected found left × WritesNothing
+
   -- a database was made at the path, an office was to be made in it, and the database was put away
   abbrev pub IsMade : Settings → Result Unit PathStop → Type 0
   IsMade settings result =
@@ -68,6 +75,14 @@ module _ (places : Places) (path : List ℕ) (device : DeviceChange) where
       IsUnopened result
       ⊎ (((result ≡ Err Exists) × places.finds path true × WritesNothing)
       ⊎ (places.finds path false × IsMade settings result))
+
+  -- The office at the path was to be taken to the present version: the path could not be looked at or no database was opened; or nothing
+  -- was found there; or a database was opened there.
+  abbrev pub MigratesAt : Result Unit PathStop → Type 0
+  MigratesAt result =
+      IsUnopened result
+      ⊎ (((result ≡ Err NoFile) × places.finds path false × WritesNothing)
+      ⊎ (places.finds path true × IsUsed MigratesKept result))
 
   -- A command was asked at the path: the path could not be looked at or no database was opened; or nothing was found there; or a database
   -- was opened there. If the connection was open in the end, the command ended over the database. `host` is what a host may show about

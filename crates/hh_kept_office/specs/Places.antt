@@ -6,6 +6,7 @@ use Rattle.sqlite.specs.Held.{Held, state}
 use Rattle.sqlite.specs.State.{State}
 use Rattle.hh_store.specs.declared.store_fault.StoreFault.{StoreFault}
 use Rattle.hh_sqlstore.specs.TakenOver.{IsTakenOver}
+use Rattle.hh_kept_office.specs.Kept.{BecomesPresent}
 
 -- A database as a connection sees it: whether the connection is open, the database in its transaction, and the database of the last commit.
 -- The latter two say nothing if the connection is closed.
@@ -30,6 +31,12 @@ LeavesConnected old new = IsTrue new.is_open → IsTrue old.is_open × (new.now 
 abbrev pub TakesConnected : Connected → Connected → Type 0
 TakesConnected old new =
     IsTrue new.is_open → IsTrue old.is_open × IsTakenOver old.now new.now × IsTakenOver old.committed new.committed
+
+-- A connection that is open afterwards was open before, everything is committed, and its database has become that of an office of the
+-- present version.
+abbrev pub MigratesConnected : Connected → Connected → Type 0
+MigratesConnected old new =
+    IsTrue new.is_open → IsTrue old.is_open × (new.now ≡ new.committed) × BecomesPresent old.committed new.committed
 
 -- the paths of a host, and the databases there
 pub record Places : Type 1 where

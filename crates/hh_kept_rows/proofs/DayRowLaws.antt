@@ -166,12 +166,12 @@ filter_kept keeps test (x ∷ xs) kept =
 -- if the first agrees with the second and the second with the third, the first agrees with the third
 agrees_through : (whole middle part : Registered) (r : Row) → AgreesOn whole middle r → AgreesOn middle part r → AgreesOn whole part r
 agrees_through whole middle part (row.Party r) a b = b ∙ a
-agrees_through whole middle part (row.Unit r) (party, unit) (party', unit') = (party' ∙ party, unit' ∙ unit)
-agrees_through whole middle part (row.Meter r) (unit, reading) (unit', reading') = (unit' ∙ unit, reading' ∙ reading)
+agrees_through whole middle part (row.Unit r) (party, unit, leads) (party', unit', leads') = (party' ∙ party, unit' ∙ unit, leads' ∙ leads)
+agrees_through whole middle part (row.Meter r) (unit, reading, leads) (unit', reading', leads') = (unit' ∙ unit, reading' ∙ reading, leads' ∙ leads)
 agrees_through whole middle part (row.Price r) a b = b ∙ a
 agrees_through whole middle part (row.Contract r) (seller, buyer, reference, volume) (seller', buyer', reference', volume') =
     (seller' ∙ seller, buyer' ∙ buyer, reference' ∙ reference, volume' ∙ volume)
-agrees_through whole middle part (row.Reallocation r) (party, unit, rows) (party', unit', rows') = (party' ∙ party, unit' ∙ unit, rows' ∙ rows)
+agrees_through whole middle part (row.Reallocation r) (party, unit, rows, leads) (party', unit', rows', leads') = (party' ∙ party, unit' ∙ unit, rows' ∙ rows, leads' ∙ leads)
 
 pub parts_of_parts : PartsOfParts
 parts_of_parts rows whole middle part a b = record {

@@ -6,10 +6,11 @@ use Rattle.std.specs.BTreeSet.{BTreeSet, Updates, contains}
 use Rattle.std.specs.Cmp.{IsTotalOrder, Equal-is}
 use Rattle.std.specs.FinMap.{put, is_sorted}
 use Rattle.std.specs.FinMap.Entries.{below_all, by_order}
-use Rattle.std.specs.List.{All}
+use Rattle.std.specs.List.{All, list_any}
 use Rattle.std.specs.Ordering.{eq_by_cmp, is_lt, ordering_reverse}
 use Rattle.std.specs.declared.cmp.Ordering.TheVariants.{Greater}
 use Rattle.std.proofs.lemmas.List.{append-nil}
+use Rattle.std.proofs.lemmas.List.Folds.{list_any_at}
 use Rattle.std.proofs.lemmas.List.Elements.{All-more, All-weaker, filter_more}
 use Rattle.hh_tables.specs.Tables.{IsTable, Table, put_all}
 use Rattle.hh_tables.proofs.MergeLaws.{from_true, put_all-append, put_all_is_table}
@@ -22,9 +23,9 @@ use Rattle.hh_rows.specs.declared.rows.ReallocationRow.{ReallocationRow}
 use Rattle.hh_rows.specs.declared.rows.Row.{Row}
 use Rattle.hh_rows.specs.declared.rows.Row.TheVariants as row
 use Rattle.hh_rows.proofs.KeyLaws.{exact_unit_periods, reallocation_key_total}
-use Rattle.hh_rules.specs.History.{Registered}
-use Rattle.hh_rules.specs.RegisterView.{AgreesOn, RegisterView, ServesFor, holding_reallocation, reallocations_at, tables_in}
-use Rattle.hh_kept_rows.specs.Parts.{whole_of}
+use Rattle.hh_rules.specs.History.{Leads, Registered}
+use Rattle.hh_rules.specs.RegisterView.{AgreesOn, RegisterView, ServesFor, holding_leads, holding_reallocation, reallocations_at, tables_in}
+use Rattle.hh_kept_rows.specs.Parts.{leads_for, names_unit, whole_of}
 use Rattle.hh_kept_rows.specs.steps.Parts.{AgreesOnNames, Grows, IsNamedIn, IsPartOf, is_named_in, with_reallocations}
 use Rattle.hh_kept_rows.proofs.PartLaws.{names_grown}
 
@@ -75,6 +76,10 @@ filter_within test wider within (x ∷ xs) =
       ]
     ] refl
 
+-- if a row names a unit, all registrations are held
+pub leads_held : (rows : List Row) (k : ℕ) (d : Row) → k < length rows → (whole held : Leads) → names_unit (get_or rows k d) ≡ true → leads_for rows whole held ≡ whole
+leads_held rows k d below whole held names = ap (λ b. cond b whole held) (list_any_at names_unit rows k d below names)
+
 module _ (whole : Registered) (rising : IsTable reallocation_key_cmp whole.reallocations) (named : BTreeSet UnitPeriod) where
   -- the reallocations whose unit and Settlement Period are named
   abbrev held : Table ReallocationKey Reallocation
@@ -96,28 +101,30 @@ module _ (whole : Registered) (rising : IsTable reallocation_key_cmp whole.reall
       filter_within (λ e. eq_by_cmp unit_period_cmp e.0.unit_period at) (is_named_in named)
       (λ e here. ap (contains unit_period_cmp named) (exact_unit_periods e.0.unit_period at ((Equal-is (unit_period_cmp e.0.unit_period at)).0 here)) ∙ is_named) whole.reallocations
 
-  -- with what a row names and these reallocations, the part has all that the row is judged by
-  agrees_with_held : (part : RegisterView) (r : Row) → AgreesOnNames whole (tables_in part) r → IsNamedIn named r → AgreesOn whole (tables_in (with_reallocations held part)) r
-  agrees_with_held part (row.Party r) names is_named = names
-  agrees_with_held part (row.Unit r) names is_named = names
-  agrees_with_held part (row.Meter r) names is_named = names
-  agrees_with_held part (row.Price r) names is_named = names
-  agrees_with_held part (row.Contract r) names is_named = names
-  agrees_with_held part (row.Reallocation r) (party, unit) is_named = (party, unit, held_at r.key.unit_period is_named)
+  -- with what a row names, these reallocations and the registrations, the part has all that the row is judged by
+  agrees_with_held : (part : RegisterView) (leads : Leads) (r : Row) → AgreesOnNames whole (tables_in part) r → IsNamedIn named r → (names_unit r ≡ true → leads ≡ whole.leads)
+      → AgreesOn whole (tables_in (holding_leads (with_reallocations held part) leads)) r
+  agrees_with_held part leads (row.Party r) names is_named has = names
+  agrees_with_held part leads (row.Unit r) (party, unit) is_named has = (party, unit, has refl)
+  agrees_with_held part leads (row.Meter r) (unit, reading) is_named has = (unit, reading, has refl)
+  agrees_with_held part leads (row.Price r) names is_named has = names
+  agrees_with_held part leads (row.Contract r) names is_named has = names
+  agrees_with_held part leads (row.Reallocation r) (party, unit) is_named has = (party, unit, held_at r.key.unit_period is_named, has refl)
 
   -- so it serves for the rows
-  pub serves_with_held : (lead_minutes : ℕ) (rows : List Row) (part new : RegisterView) → IsPartOf (whole_of lead_minutes whole) part → All (AgreesOnNames whole (tables_in part)) rows → All (IsNamedIn named) rows
-      → new ≡ with_reallocations (put_all reallocation_key_cmp held (tables_in part).reallocations) part
-      → ServesFor rows (whole_of lead_minutes whole) new
-  serves_with_held lead_minutes rows part new is names are_named became =
+  pub serves_with_held : (lead_minutes : ℕ) (rows : List Row) (part new last : RegisterView) → IsPartOf (whole_of lead_minutes whole) part → All (AgreesOnNames whole (tables_in part)) rows → All (IsNamedIn named) rows
+      → new ≡ with_reallocations (put_all reallocation_key_cmp held (tables_in part).reallocations) part → last ≡ holding_leads new (leads_for rows whole.leads (tables_in new).leads)
+      → ServesFor rows (whole_of lead_minutes whole) last
+  serves_with_held lead_minutes rows part new last is names are_named became holds =
       let rows_are : put_all reallocation_key_cmp held (tables_in part).reallocations ≡ held = ap (put_all reallocation_key_cmp held) is.reallocations ∙ put_held in
-      subst (ServesFor rows (whole_of lead_minutes whole)) (sym (became ∙ ap (λ es. with_reallocations es part) rows_are)) (record {
+      let leads : Leads = leads_for rows whole.leads (tables_in part).leads in
+      subst (ServesFor rows (whole_of lead_minutes whole)) (sym (holds ∙ ap (λ r. holding_leads r (leads_for rows whole.leads (tables_in r).leads)) (became ∙ ap (λ es. with_reallocations es part) rows_are))) (record {
         rising = rising;
         part_rising = subst (IsTable reallocation_key_cmp) put_held (put_all_is_table reallocation_key_total held [] refl);
         lead_minutes = is.lead_minutes;
         parties = is.party_count;
         units = is.unit_count;
-        agrees = λ k d below. agrees_with_held part _ (names k d below) (are_named k d below);
+        agrees = λ k d below. agrees_with_held part leads _ (names k d below) (are_named k d below) (leads_held rows k d below whole.leads (tables_in part).leads);
       })
 
 -- what is named stays named

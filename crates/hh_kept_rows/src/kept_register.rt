@@ -8,6 +8,7 @@ ghost use Rattle.hh_states.specs.Reads.{is_key_known_in};
 
 use hh_names::{Counterparties, PartyId, Reading, Reallocation, Reference, UnitId};
 use hh_num::{Kwh, Price};
+use hh_registrations::LeadTable;
 use hh_rows::{
     ContractKey, PartyRegistration, ReallocationKey, SettlementPeriod, UnitPeriod, UnitRegistration,
 };
@@ -16,13 +17,15 @@ use std::alloc::Global;
 use std::marker::Model;
 
 /// What is registered and in force, or what a store has selected of it, as lists in the order of their
-/// keys. Contracts see the seven tables.
+/// keys. Contracts see the eight tables.
 #[derive(Drop)]
 pub struct KeptRegister {
     /// The registered parties.
     pub parties: ListTable<PartyId, PartyRegistration>,
     /// The registered units.
     pub units: ListTable<UnitId, UnitRegistration>,
+    /// The registrations of units.
+    pub leads: LeadTable,
     /// The sellers and the buyers of references.
     pub references: ListTable<Reference, Counterparties>,
     /// The readings that count.
@@ -43,6 +46,7 @@ impl Model for KeptRegister {
     ghost view = { λ r. record {
       parties = r.parties;
       units = r.units;
+      leads = r.leads;
       references = r.references;
       meters = r.meters;
       prices = r.prices;
@@ -59,6 +63,7 @@ impl KeptRegister {
         KeptRegister {
             parties: ListTable::new(alloc),
             units: ListTable::new(alloc),
+            leads: LeadTable::new(alloc),
             references: ListTable::new(alloc),
             meters: ListTable::new(alloc),
             prices: ListTable::new(alloc),

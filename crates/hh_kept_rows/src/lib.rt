@@ -32,5 +32,6 @@ pub use hh_settled_periods::DayBeside;
 pub use hh_store::{DayData, KeptFile, LoadChange, OutputFault, RunChange, StoreFault, Tables};
 pub use kept_register::KeptRegister;
 pub use laws::{contracts_by_their_rows, parts_of_parts, read_by_what_is_beside};
+pub use part::name_units;
 pub use reports::{write_balances_of, write_day_report_of, write_results_of};
 pub use run_rows::{postings_to, results_of, runs_on};

@@ -2,11 +2,12 @@
 
 ghost use Rattle.std.specs.Prelude.{◌≡◌, ◌≤◌, ℕ, [], true, false, filter, All, IfErr, IfOk, IsOk, OnOk, Some};
 ghost use Rattle.std.specs.FinMap.{find};
+ghost use Rattle.std.specs.List.{list_any};
 ghost use Rattle.hh_tables.specs.Tables.{IsTable, put_all};
 ghost use Rattle.hh_rows.specs.Keys.{contract_key_cmp, reallocation_key_cmp, settlement_period_cmp, unit_period_cmp};
-ghost use Rattle.hh_rules.specs.RegisterView.{held_reallocation, holding_reallocation, tables_in, AgreesOnParty, AgreesOnReference, AgreesOnUnit, ServesFor};
+ghost use Rattle.hh_rules.specs.RegisterView.{held_reallocation, holding_leads, holding_reallocation, tables_in, AgreesOnParty, AgreesOnReference, AgreesOnUnit, ServesFor};
 ghost use Rattle.hh_states.specs.Soundness.{AreSound};
-ghost use Rattle.hh_kept_rows.specs.Parts.{whole_of};
+ghost use Rattle.hh_kept_rows.specs.Parts.{leads_for, names_unit, whole_of};
 ghost use Rattle.hh_kept_rows.specs.steps.Parts.{is_after, is_named_in, with_reallocations, AgreesOnNames, AgreesOnUnits, NoneAfter, Grows, IsNamedIn, IsPartOf, NoneNegative};
 
 use crate::kept_register::KeptRegister;
@@ -33,11 +34,24 @@ impl KeptRegister {
         let mut part = self.names_of(alloc, lead_minutes, rows)?;
         let named = periods_named(alloc, rows)?;
         self.hold_reallocations(&mut part, &named)?;
+        self.hold_leads(alloc, &mut part, rows)?;
         Ok(part)
     }
 
+    /// Holds the registrations of all units if one of these rows names a unit. `Err` only if memory is
+    /// refused.
+    fn hold_leads(&self, alloc: Global, part: &mut Register, rows: &[Row]) -> Result<(), AllocError>
+        ensures { OnOk result (part.new ≡ holding_leads part.old
+            (leads_for rows.now self.now.leads (tables_in part.old).leads)) }
+    {
+        if name_units(rows) {
+            part.hold_leads(self.leads.copied(alloc)?);
+        }
+        Ok(())
+    }
+
     /// A register that has what these rows name, and the rows in force of their keys, but no
-    /// reallocation. `Store` only if what is registered and in force is not sound.
+    /// registration of a unit and no reallocation. `Store` only if what is registered and in force is not sound.
     fn names_of(
         &self,
         alloc: Global,
@@ -324,6 +338,20 @@ impl KeptRegister {
     {
         self.reallocations.rows()
     }
+}
+
+/// Whether one of these rows names a unit.
+pub fn name_units(rows: &[Row]) -> bool
+    ensures { result ≡ list_any names_unit rows.now }
+{
+    rows.iter().any(|row| names_unit(row))
+}
+
+/// Whether a row names a unit.
+fn names_unit(row: &Row) -> bool
+    ensures { result ≡ names_unit row.now }
+{
+    matches!(row, Row::Unit(_) | Row::Meter(_) | Row::Reallocation(_))
 }
 
 /// For the proof: no percentage of the rows is negative, as their type says. The compiler leaves nothing of

@@ -94,7 +94,7 @@ no_columns = record { width = 0; fits = λ _. true; write = λ _. []; read = λ 
 
 -- the version of the tables
 abbrev pub version : ℕ
-version = 1
+version = 2
 
 -- the number of a version, lead minutes, the operator's key
 abbrev pub settings_columns_of : ℕ → Codec Settings

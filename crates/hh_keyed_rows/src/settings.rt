@@ -15,7 +15,7 @@ use std::alloc::AllocError;
 use std::marker::Model;
 
 /// The present version of the tables.
-const VERSION: u8 = 1;
+const VERSION: u8 = 2;
 
 impl Columned for Settings {
     ghost codec = { settings_columns };
@@ -44,11 +44,11 @@ impl<const NUMBER: u8> Model for NumberedSettings<NUMBER> {
 }
 
 impl<const NUMBER: u8> NumberedSettings<NUMBER> {
-    /// These settings.
-    pub fn new(settings: Settings) -> NumberedSettings<NUMBER>
-        ensures { result ≡ settings }
+    /// The settings without the number of the version.
+    pub fn settings(&self) -> Settings
+        ensures { result ≡ self.now }
     {
-        NumberedSettings { settings }
+        self.settings
     }
 }
 

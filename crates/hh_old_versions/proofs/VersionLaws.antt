@@ -27,16 +27,16 @@ use Rattle.hh_rows.specs.declared.rows.Row.{Row}
 use Rattle.hh_rows.specs.declared.rows.Row.TheVariants as row
 use Rattle.hh_rows.specs.declared.rows.UnitRegistration.{UnitRegistration}
 use Rattle.hh_rows.specs.declared.rows.UnitRow.{UnitRow}
-use Rattle.hh_registrations.specs.declared.unit_change.FormerLead.TheVariants as former
-use Rattle.hh_registrations.specs.Registrations.{Lead, Leads, RegistrationsView, beside_former, former_lead, last_registration, lead_of, one_lead_each, registration_on, unless_ended, widened, with_unit_row}
+use Rattle.hh_registrations.specs.declared.changes.FormerLead.TheVariants as former
+use Rattle.hh_registrations.specs.Registrations.{Lead, Leads, RegistrationsView, beside_former, former_lead, last_registration, lead_of, no_registrations, one_lead_each, registration_on, unless_ended, widened, with_unit_row}
 use Rattle.hh_registrations.proofs.KeyLaws.{at}
 use Rattle.hh_rules.specs.declared.timing.Timing.{Timing}
 use Rattle.hh_rules.specs.Entries.{unit_entry}
-use Rattle.hh_rules.specs.History.{History, Registered, entries_of}
+use Rattle.hh_rules.specs.History.{History, Registered, entries_of, leads_from, leads_with_row}
 use Rattle.hh_rules.specs.Lateness.{Timetable, Accepted, accepted_at, comes_in_time, lacks_period, timing_of}
 use Rattle.hh_rules.specs.Refusals.{is_party_off, is_same_mark, is_some_that, is_unit_moved, is_unit_off, most_units, passes_hundred, registered_party, whole_standing}
 use Rattle.hh_rules.proofs.HistoryLaws.{entries_of-append}
-use Rattle.hh_successions.specs.RegistrationHistory.{IsAcceptedBy, no_rows, one_more, refusal_by, registered_with_units, registrations_in, registrations_with}
+use Rattle.hh_successions.specs.RegistrationHistory.{IsAcceptedBy, no_rows, one_more, refusal_by, registered_with_units, registrations_from, registrations_in, registrations_with}
 use Rattle.hh_successions.specs.SuccessionRefusals.{is_shrunk, is_subsidiary_put_first, is_to_lead_of, is_unit_moved_by_leads, last_lead, reallocation_refusals_by_leads, refusals_by_leads, unit_refusals_by_leads}
 use Rattle.hh_successions.proofs.LeadLaws.{IsKept, first_is, last_holds, last_known, lead_key, lead_term, with_registration}
 use Rattle.hh_successions.proofs.LookBackLaws.{AreKeptIn, NoneMet, accepted_kept, none_met, not_passed, row_by_row}
@@ -420,6 +420,19 @@ was_accepted timetable _ (one_more history a before accepted) =
 pub histories_of_version_one : HistoriesOfVersionOne
 histories_of_version_one timetable history accepted = (was_accepted timetable history accepted).here
 
+-- the tables have the registrations that the rows of a history make
+leads_of_row : (r : Row) (registered : RegistrationsView) → leads_with_row r registered.leads ≡ (registrations_with r registered).leads
+leads_of_row (row.Party r) registered = refl
+leads_of_row (row.Unit r) registered = refl
+leads_of_row (row.Meter r) registered = refl
+leads_of_row (row.Price r) registered = refl
+leads_of_row (row.Contract r) registered = refl
+leads_of_row (row.Reallocation r) registered = refl
+
+leads_of_rows : (history : History) (registered : RegistrationsView) → leads_from registered.leads history ≡ (registrations_from registered history).leads
+leads_of_rows [] registered = refl
+leads_of_rows (a ∷ rows) registered = ap (λ leads. leads_from leads rows) (leads_of_row a.row registered) ∙ leads_of_rows rows (registrations_with a.row registered)
+
 -- and has what version 1 kept
 pub kept_by_version_one : KeptByVersionOne
 kept_by_version_one timetable history accepted =
@@ -427,6 +440,7 @@ kept_by_version_one timetable history accepted =
     record {
       units = was.one.units;
       leads = was.one.leads;
+      kept = λ _. leads_of_rows history no_registrations ∙ was.one.leads ∙ ap one_lead_each was.one.units;
       lead = λ unit u found date held. ap (option_map (λ e. e.1.lead)) (one_on history (accepted_kept timetable history was.here) was.one unit u found date held);
     }
 

@@ -14,7 +14,7 @@ use Rattle.hh_rows.specs.declared.rows.UnitRow.{UnitRow}
 use Rattle.hh_registrations.specs.Registrations.{one_lead_each, registered_lead_on}
 use Rattle.hh_rules.specs.declared.timing.Timing.{Timing}
 use Rattle.hh_rules.specs.Entries.{unit_entry}
-use Rattle.hh_rules.specs.History.{History, entries_of}
+use Rattle.hh_rules.specs.History.{History, Registered, entries_of, registered_in}
 use Rattle.hh_rules.specs.Lateness.{Timetable, Accepted, comes_in_time, lacks_period}
 use Rattle.hh_rules.specs.Refusals.{Standing, contract_refusals, is_party_off, is_some_that, is_unit_moved, is_unit_off, meter_refusals, most_units, party_refusals, passes_hundred, price_refusals, registered_party, registered_unit, whole_standing}
 use Rattle.hh_successions.specs.RegistrationHistory.{IsAcceptedBy, refusal_by, registrations_in}
@@ -60,11 +60,12 @@ rule_of_version_one tables leads timing (row.Reallocation r) = reallocation_refu
 
 -- ---- what version 1 kept of units
 
--- What version 1 kept, in its own words: what is registered of a unit is the unit's last row; each unit has one registration; and the
--- account of the row leads the unit on each of its dates.
+-- What version 1 kept, in its own words: what is registered of a unit is the unit's last row; each unit has one registration, also in the
+-- tables; and the account of the row leads the unit on each of its dates.
 pub record IsOfVersionOne (history : History) : Type 0 where
   pub units : (registrations_in history).units ≡ table_of_last bytes_cmp (entries_of unit_entry history)
   pub leads : (registrations_in history).leads ≡ one_lead_each (registrations_in history).units
+  pub kept : (timetable : Timetable) → let tables : Registered = registered_in timetable history in tables.leads ≡ one_lead_each tables.units
   pub lead : (unit : List ℕ) (u : UnitRegistration) → find bytes_cmp unit (registrations_in history).units ≡ Some u
       → (date : ℕ) → holds u.range date ≡ true → registered_lead_on (registrations_in history) unit date ≡ Some u.lead
 

@@ -1,17 +1,21 @@
 -- Changes of registrations: in which order their rows are put, and that none begins after the last accepted date.
-use Rattle.std.proofs.Common.{◌≡◌, ◌≤◌, ℕ, List, [], ◌∷◌, Bool, true, false, cond, refl, sym, ap, subst, ◌∙◌, Option, Some, None}
-use Rattle.std.proofs.Common.{rules}
+use Rattle.std.proofs.Common.{◌≡◌, ◌<◌, ◌≤◌, ◌+◌, ℕ, List, [], ◌∷◌, Bool, true, false, cond, refl, sym, ap, subst, ◌∙◌, Option, Some, None, Result, Ok, Err, OnOk, get_or, length, take}
+use Rattle.std.proofs.Common.{◌<◌, ◌+◌, ◌++◌, append_assoc, arith, drop, get_or, length, rules, suc, take, zero}
+use Rattle.std.proofs.Math.Seq.{take-suc}
 use Rattle.std.specs.Cmp.Rules.{comparing}
 use Rattle.std.specs.Cmp.Lexicographic.{pointwise}
-use Rattle.std.specs.Prelude.{◌-◌, nat_eq, nat_lt, filter, is_some, not, ◌&&◌, IsSome, T}
+use Rattle.std.specs.Prelude.{◌-◌, nat_eq, nat_lt, filter, is_some, not, ◌&&◌, IsSome, OnErr, T}
 use Rattle.std.specs.Cmp.{Equal-is, eq_by_cmp_equiv}
 use Rattle.std.specs.FinMap.{find, put, is_sorted}
 use Rattle.std.specs.FinMap.Entries.{by_order, find-put, is_sorted-put, same_entries}
 use Rattle.std.specs.Ordering.{eq_by_cmp}
 use Rattle.std.specs.declared.cmp.Ordering.TheVariants.{Less, Equal, Greater}
 use Rattle.std.proofs.lemmas.Bool.{le-leb}
+use Rattle.std.proofs.lemmas.List.{take_all}
 use Rattle.hh_tables.specs.Ends.{last_of}
-use Rattle.hh_tables.specs.Tables.{Table, without}
+use Rattle.hh_tables.specs.Tables.{IsTable, Table, put_all, without}
+use Rattle.hh_tables.proofs.BehindLaws.{put_into_none, rising_in_order}
+use Rattle.hh_tables.proofs.MergeLaws.{from_true, put_more, true_from}
 use Rattle.hh_tables.proofs.WithoutLaws.{find-without, sorted-without}
 use Rattle.hh_names.specs.Accounts.{bytes_cmp}
 use Rattle.hh_names.proofs.AccountLaws.{bytes_total}
@@ -19,14 +23,17 @@ use Rattle.hh_time.specs.Days.{last_date}
 use Rattle.hh_rows.specs.Keys.{lead_key_cmp}
 use Rattle.hh_rows.specs.declared.keys.LeadKey.{LeadKey}
 use Rattle.hh_rows.specs.declared.rows.LeadTerm.{LeadTerm}
+use Rattle.hh_rows.specs.declared.rows.Row.{Row}
 use Rattle.hh_rows.specs.declared.rows.UnitRegistration.{UnitRegistration}
 use Rattle.hh_rows.specs.declared.rows.UnitRow.{UnitRow}
 use Rattle.hh_rows.proofs.KeyLaws.{exact_lead_keys, lead_key_total}
-use Rattle.hh_registrations.specs.declared.unit_change.FormerLead.{FormerLead}
-use Rattle.hh_registrations.specs.declared.unit_change.FormerLead.TheVariants as former
-use Rattle.hh_registrations.specs.declared.unit_change.UnitChange.{UnitChange}
-use Rattle.hh_registrations.specs.Registrations.{Lead, Leads, RegistrationsView, beside_former, former_lead, is_begun, is_of_unit, is_succession, last_begun, last_registration, leads_with, unit_change, widened}
-use Rattle.hh_registrations.specs.steps.Dates.{BeginByLastDate}
+use Rattle.hh_registrations.specs.declared.changes.FormerLead.{FormerLead}
+use Rattle.hh_registrations.specs.declared.changes.FormerLead.TheVariants as former
+use Rattle.hh_registrations.specs.declared.changes.LeadChange.{LeadChange}
+use Rattle.hh_registrations.specs.Registrations.{BeginByLastDate, Lead, Leads, beside_former, former_lead, is_begun, is_of_unit, is_succession, last_begun, last_registration, lead_change, leads_after, leads_with, leads_with_row}
+use Rattle.hh_registrations.specs.LeadSteps.{steps_of_row, steps_of_rows}
+use Rattle.hh_registrations.specs.declared.lead_steps.LeadStep.{LeadStep}
+use Rattle.hh_registrations.specs.steps.Dates.{AreInOrder}
 
 -- ---- a registration put before another is taken out
 
@@ -78,6 +85,32 @@ keys_apart a b apart = search (comparing, rules)
 pub keys_same : (a b : LeadKey) → not (pointwise nat_eq a.unit b.unit && nat_eq a.from b.from) ≡ false → a ≡ b
 keys_same a b same = exact_lead_keys a b (search (comparing, rules))
 
+-- ---- rising keys
+
+rising_beside : (changed : FormerLead) (leads : Leads) → T (is_sorted lead_key_cmp leads) → T (is_sorted lead_key_cmp (beside_former changed leads))
+rising_beside former.Absent leads h = h
+rising_beside (former.Replaced key) leads h = sorted-without lead_key_total key leads h
+rising_beside (former.Ended key term) leads h = is_sorted-put lead_key_cmp lead_key_total key term leads h
+
+-- the keys of the registrations still rise after a row of units
+rising_with : (leads : Leads) (r : UnitRow) → IsTable lead_key_cmp leads → IsTable lead_key_cmp (leads_after r leads)
+rising_with leads r rising =
+    let change : LeadChange = lead_change leads r in
+    true_from _ (is_sorted-put lead_key_cmp lead_key_total change.key change.term (beside_former change.former leads) (rising_beside change.former leads (from_true _ rising)))
+
+-- one more of registrations is put; those before are put already
+pub one_more_put : (leads : Leads) → IsTable lead_key_cmp leads → (i : ℕ) (e : Lead) → i < length leads → e ≡ get_or leads i e
+    → (before after : Leads) → before ≡ put_all lead_key_cmp (take i leads) [] → after ≡ put lead_key_cmp e.0 e.1 before → after ≡ put_all lead_key_cmp (take (i + 1) leads) []
+one_more_put leads rising i e inside at before after so_far is =
+    put_more lead_key_total leads (rising_in_order lead_key_total leads rising) i e inside at [] before after so_far is
+
+-- registrations that are all put, one after the other into none, are the same registrations
+pub all_put : (leads : Leads) → IsTable lead_key_cmp leads → (rows : Leads) → rows ≡ leads → (i : ℕ) → length rows ≤ i
+    → (copy : Leads) → copy ≡ put_all lead_key_cmp (take i rows) [] → copy ≡ leads
+all_put leads rising rows are i at_end copy is =
+    is ∙ ap (λ l. put_all lead_key_cmp l []) (take_all i rows at_end ∙ are)
+    ∙ sym (put_into_none lead_key_total leads [] [] 0 refl refl refl rising)
+
 -- ---- first dates
 
 abbrev Dated : Lead → Type 0
@@ -116,12 +149,11 @@ dated_beside leads all (Some last) own new =
     ]
 
 -- no registration begins after the last accepted date, if the row doesn't
-pub dated_with : (registered : RegistrationsView) (r : UnitRow) → r.registration.range.from ≤ last_date → BeginByLastDate registered.leads
-    → BeginByLastDate (leads_with (unit_change registered r) registered.leads)
-dated_with registered r own all =
-    dated_put (unit_change registered r).key (unit_change registered r).term _ own
-    (dated_beside registered.leads all (last_registration registered.leads r.unit)
-    (λ e is. dated_last _ (dated_filter (λ x. is_of_unit r.unit x.0) registered.leads all) e is) r.registration)
+pub dated_with : (leads : Leads) (r : UnitRow) → r.registration.range.from ≤ last_date → BeginByLastDate leads → BeginByLastDate (leads_after r leads)
+dated_with leads r own all =
+    dated_put (lead_change leads r).key (lead_change leads r).term _ own
+    (dated_beside leads all (last_registration leads r.unit)
+    (λ e is. dated_last _ (dated_filter (λ x. is_of_unit r.unit x.0) leads all) e is) r.registration)
 
 -- so each has begun on that date
 pub last_is_begun : (leads : Leads) (unit : List ℕ) → BeginByLastDate leads → last_begun leads unit last_date ≡ last_registration leads unit
@@ -139,27 +171,74 @@ last_is_begun leads unit all = ap last_of (alike leads all)
 -- ---- what the code computes
 
 -- a change made of its parts
-pub change_is : (registered : RegistrationsView) (r : UnitRow) → BeginByLastDate registered.leads
-    → (registration : UnitRegistration) → registration ≡ widened (find bytes_cmp r.unit registered.units) r.registration
-    → (last : Option Lead) → last ≡ last_begun registered.leads r.unit last_date → (changed : FormerLead) → changed ≡ former_lead last r.registration
+pub change_is : (leads : Leads) (r : UnitRow) → BeginByLastDate leads
+    → (last : Option Lead) → last ≡ last_begun leads r.unit last_date → (changed : FormerLead) → changed ≡ former_lead last r.registration
     → (ends : ℕ × ℕ) → ends ≡ (r.registration.range.from, r.registration.range.to)
-    → record { registration = registration; former = changed; key = record { unit = r.unit; from = ends.0 }; term = record { lead = r.registration.lead; to = ends.1 } } ≡ unit_change registered r
-change_is registered r dated registration whole last is changed then ends are = λ i. record {
-  registration = whole i;
-  former = (then ∙ ap (λ o. former_lead o r.registration) (is ∙ last_is_begun registered.leads r.unit dated)) i;
+    → record { former = changed; key = record { unit = r.unit; from = ends.0 }; term = record { lead = r.registration.lead; to = ends.1 } } ≡ lead_change leads r
+change_is leads r dated last is changed then ends are = λ i. record {
+  former = (then ∙ ap (λ o. former_lead o r.registration) (is ∙ last_is_begun leads r.unit dated)) i;
   key = record { unit = r.unit; from = (are i).0 };
   term = record { lead = r.registration.lead; to = (are i).1 };
 }
 
--- none of the registrations begins after the last accepted date when a change is made
-pub dated_change : (registered : RegistrationsView) (r : UnitRow) (change : UnitChange) → change ≡ unit_change registered r → change.key.from ≤ last_date → BeginByLastDate registered.leads
-    → (new : Leads) → new ≡ leads_with change registered.leads → BeginByLastDate new
-dated_change registered r change is own all new made =
-    subst BeginByLastDate (sym (made ∙ ap (λ x. leads_with x registered.leads) is))
-    (dated_with registered r (subst (λ (x : UnitChange). x.key.from ≤ last_date) is own) all)
+-- what is known of kept registrations is still so when a change is made
+change_kept : (leads : Leads) (r : UnitRow) (change : LeadChange) → change ≡ lead_change leads r → change.key.from ≤ last_date → AreInOrder leads
+    → (new : Leads) → new ≡ leads_with change leads → AreInOrder new
+change_kept leads r change is own kept new made =
+    subst AreInOrder (sym (made ∙ ap (λ x. leads_with x leads) is))
+    (record { rising = rising_with leads r kept.rising; dated = dated_with leads r (subst (λ (x : LeadChange). x.key.from ≤ last_date) is own) kept.dated })
+
+-- nor does it change if memory was refused
+pub kept_either : {X E : Type 0} (leads : Leads) (r : UnitRow) (change : LeadChange) → change ≡ lead_change leads r → change.key.from ≤ last_date → AreInOrder leads
+    → (new : Leads) (result : Result X E) → OnOk result (new ≡ leads_with change leads) → OnErr result (new ≡ leads) → AreInOrder new
+kept_either leads r change is own kept new (Ok x) ok err = change_kept leads r change is own kept new ok
+kept_either leads r change is own kept new (Err e) ok err = subst AreInOrder (sym err) kept
 
 -- what was put for a unit is there
 pub found_put : (unit : List ℕ) (u : UnitRegistration) (units new : Table (List ℕ) UnitRegistration) → new ≡ put bytes_cmp unit u units → IsSome (find bytes_cmp unit new)
 found_put unit u units new is =
     ap is_some (ap (find bytes_cmp unit) is ∙ find-put bytes_cmp bytes_total unit unit u units
     ∙ ap (λ b. cond b (Some u) (find bytes_cmp unit units)) ((eq_by_cmp_equiv bytes_total).refl unit))
+
+-- a registration that begins by the last accepted date is put, or memory is refused
+pub put_in_order : {X E : Type 0} (key : LeadKey) (term : LeadTerm) (leads : Leads) → key.from ≤ last_date → AreInOrder leads
+    → (new : Leads) (result : Result X E) → OnOk result (new ≡ put lead_key_cmp key term leads) → OnErr result (new ≡ leads) → AreInOrder new
+put_in_order key term leads own all new (Ok x) ok err = subst AreInOrder (sym ok) (record {
+  rising = true_from _ (is_sorted-put lead_key_cmp lead_key_total key term leads (from_true _ all.rising));
+  dated = dated_put key term leads own all.dated;
+})
+put_in_order key term leads own all new (Err e) ok err = subst AreInOrder (sym err) all
+
+-- ---- rows one after the other
+
+-- the items of a list from the `i`-th on
+next_of : {X : Type 0} (xs : List X) (i : ℕ) (x : X) → i < length xs → x ≡ get_or xs i x → drop i xs ≡ x ∷ drop (i + 1) xs
+next_of [] i x low is = absurd (omega (arith, low))
+next_of (y ∷ xs) zero x low is = ap (λ z. z ∷ xs) (sym is)
+next_of (y ∷ xs) (suc i) x low is = next_of xs i x (omega (arith, low)) is ∙ ap (λ n. x ∷ drop n (y ∷ xs)) (let e : suc (i + 1) ≡ suc i + 1 = omega arith in e)
+
+taken_next : {X : Type 0} (xs : List X) (i : ℕ) (x : X) → i < length xs → x ≡ get_or xs i x → take (i + 1) xs ≡ take i xs ++ x ∷ []
+taken_next xs i x low is = ap (λ n. take n xs) (let e : i + 1 ≡ suc i = omega arith in e) ∙ take-suc xs i x low ∙ ap (λ y. take i xs ++ y ∷ []) (sym is)
+
+put_behind : (rows : Leads) (e : Lead) (leads : Leads) → put lead_key_cmp e.0 e.1 (put_all lead_key_cmp rows leads) ≡ put_all lead_key_cmp (rows ++ e ∷ []) leads
+put_behind [] e leads = refl
+put_behind (x ∷ rows) e leads = put_behind rows e (put lead_key_cmp x.0 x.1 leads)
+
+-- one more row of the table is put
+pub put_next : (rows : Leads) (i : ℕ) (e : Lead) → i < length rows → e ≡ get_or rows i e
+    → put lead_key_cmp e.0 e.1 (put_all lead_key_cmp (take i rows) []) ≡ put_all lead_key_cmp (take (i + 1) rows) []
+put_next rows i e low is = put_behind (take i rows) e [] ∙ ap (λ rs. put_all lead_key_cmp rs []) (sym (taken_next rows i e low is))
+
+-- one more row: its steps come behind the steps so far
+pub steps_more : (steps : List LeadStep) (rows : List Row) (i : ℕ) (r : Row) (held : Leads) (all : List LeadStep) → i < length rows → r ≡ get_or rows i r
+    → steps ++ steps_of_rows (drop i rows) held ≡ all → (steps ++ steps_of_row r held) ++ steps_of_rows (drop (i + 1) rows) (leads_with_row r held) ≡ all
+steps_more steps rows i r held all low is kept =
+    append_assoc steps (steps_of_row r held) _
+    ∙ ap (λ rs. steps ++ steps_of_rows rs held) (sym (next_of rows i r low is))
+    ∙ kept
+
+-- if all registrations begin by the last accepted date, so does each
+pub begun_at : (rows : Leads) (i : ℕ) (e : Lead) → i < length rows → e ≡ get_or rows i e → BeginByLastDate rows → e.0.from ≤ last_date
+begun_at [] i e low is all = absurd (omega (arith, low))
+begun_at (x ∷ rows) zero e low is all = subst (λ (l : Lead). l.0.from ≤ last_date) (sym is) all.0
+begun_at (x ∷ rows) (suc i) e low is all = begun_at rows i e (omega (arith, low)) is all.1

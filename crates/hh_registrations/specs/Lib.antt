@@ -1,2 +1,3 @@
+pub mod LeadSteps
 pub mod Registrations
 pub mod steps

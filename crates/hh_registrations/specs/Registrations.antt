@@ -1,20 +1,25 @@
 -- The registrations of units: which account leads a unit from which date to which, and what a row of units makes of them.
-use Rattle.std.specs.Prelude.{ℕ, ◌-◌, nat_le, nat_lt, List, [], filter, map, Bool, not, ◌&&◌, Option, Some, None, option_map, if◌then◌else◌}
+use Rattle.std.specs.List.{AllByRecursion}
+use Rattle.std.specs.Prelude.{ℕ, ◌-◌, ◌≤◌, nat_le, nat_lt, List, [], filter, map, Bool, not, ◌&&◌, Option, Some, None, option_map, if◌then◌else◌}
 use Rattle.std.specs.FinMap.{find, put}
 use Rattle.std.specs.Ordering.{eq_by_cmp}
 use Rattle.hh_tables.specs.Ends.{last_of}
 use Rattle.hh_tables.specs.Tables.{Table, without}
 use Rattle.hh_names.specs.declared.account.Account.{Account}
 use Rattle.hh_names.specs.Accounts.{bytes_cmp, is_same_account}
+use Rattle.hh_time.specs.Days.{last_date}
 use Rattle.hh_rows.specs.DateRanges.{begun_by}
 use Rattle.hh_rows.specs.Keys.{lead_key_cmp}
 use Rattle.hh_rows.specs.declared.keys.LeadKey.{LeadKey}
 use Rattle.hh_rows.specs.declared.rows.LeadTerm.{LeadTerm}
+use Rattle.hh_rows.specs.declared.rows.Row.{Row}
+use Rattle.hh_rows.specs.declared.rows.Row.TheVariants as row
 use Rattle.hh_rows.specs.declared.rows.UnitRegistration.{UnitRegistration}
 use Rattle.hh_rows.specs.declared.rows.UnitRow.{UnitRow}
-use Rattle.hh_registrations.specs.declared.unit_change.FormerLead.{FormerLead}
-use Rattle.hh_registrations.specs.declared.unit_change.FormerLead.TheVariants as former
-use Rattle.hh_registrations.specs.declared.unit_change.UnitChange.{UnitChange}
+use Rattle.hh_registrations.specs.declared.changes.FormerLead.{FormerLead}
+use Rattle.hh_registrations.specs.declared.changes.FormerLead.TheVariants as former
+use Rattle.hh_registrations.specs.declared.changes.LeadChange.{LeadChange}
+use Rattle.hh_registrations.specs.declared.changes.UnitChange.{UnitChange}
 
 -- a registration: a unit with its first date, and the lead account with the last date
 abbrev pub Lead : Type 0
@@ -23,6 +28,10 @@ Lead = LeadKey × LeadTerm
 -- the registrations of all units
 abbrev pub Leads : Type 0
 Leads = Table LeadKey LeadTerm
+
+-- no registration begins after the last accepted date
+abbrev pub BeginByLastDate : Leads → Type 0
+BeginByLastDate leads = AllByRecursion (λ e. e.0.from ≤ last_date) leads
 
 -- What is registered of units: of each unit its latest lead account, its mark and its whole range, and the registrations of all.
 pub record RegistrationsView : Type 0 where
@@ -99,13 +108,19 @@ abbrev pub widened : Option UnitRegistration → UnitRegistration → UnitRegist
 widened None new = new
 widened (Some known) new = record new { range = begun_by known.range.from new.range }
 
+-- what a row of units changes in the registrations
+abbrev pub lead_change : Leads → UnitRow → LeadChange
+lead_change leads r = record {
+  former = former_lead (last_registration leads r.unit) r.registration;
+  key = record { unit = r.unit; from = r.registration.range.from };
+  term = record { lead = r.registration.lead; to = r.registration.range.to };
+}
+
 -- what a row of units changes
 abbrev pub unit_change : RegistrationsView → UnitRow → UnitChange
 unit_change registered r = record {
   registration = widened (find bytes_cmp r.unit registered.units) r.registration;
-  former = former_lead (last_registration registered.leads r.unit) r.registration;
-  key = record { unit = r.unit; from = r.registration.range.from };
-  term = record { lead = r.registration.lead; to = r.registration.range.to };
+  lead = lead_change registered.leads r;
 }
 
 -- the registrations without the former one, or with its new end
@@ -115,14 +130,21 @@ beside_former (former.Replaced key) leads = without lead_key_cmp key leads
 beside_former (former.Ended key term) leads = put lead_key_cmp key term leads
 
 -- the registrations with a change made
-abbrev pub leads_with : UnitChange → Leads → Leads
+abbrev pub leads_with : LeadChange → Leads → Leads
 leads_with change leads = put lead_key_cmp change.key change.term (beside_former change.former leads)
+
+-- the registrations after a row of units
+abbrev pub leads_after : UnitRow → Leads → Leads
+leads_after r leads = leads_with (lead_change leads r) leads
+
+-- the registrations after a row: only rows of units change them
+abbrev pub leads_with_row : Row → Leads → Leads
+leads_with_row (row.Unit r) leads = leads_after r leads
+leads_with_row _ leads = leads
 
 -- what is registered of units after a row of units
 abbrev pub with_unit_row : UnitRow → RegistrationsView → RegistrationsView
-with_unit_row r registered =
-    let change = unit_change registered r in
-    record {
-      units = put bytes_cmp r.unit change.registration registered.units;
-      leads = leads_with change registered.leads;
-    }
+with_unit_row r registered = record {
+  units = put bytes_cmp r.unit (unit_change registered r).registration registered.units;
+  leads = leads_after r registered.leads;
+}

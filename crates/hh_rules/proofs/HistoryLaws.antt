@@ -6,7 +6,8 @@ use Rattle.std.specs.Cmp.{IsTotalOrder}
 use Rattle.std.specs.List.{cons_option}
 use Rattle.std.proofs.lemmas.List.{append-nil}
 use Rattle.hh_rows.specs.declared.rows.Row.{Row}
-use Rattle.hh_rules.specs.History.{History, entries_of, registered_in}
+use Rattle.hh_registrations.specs.Registrations.{Leads}
+use Rattle.hh_rules.specs.History.{History, entries_of, leads_from, leads_with_row, registered_in}
 use Rattle.hh_rules.specs.Lateness.{Timetable, Accepted, is_in_time}
 use Rattle.hh_rules.specs.Entries.{party_entry, unit_entry, reference_entry, meter_entry, price_entry, contract_entry, reallocation_entry}
 use Rattle.hh_rules.specs.Effects.{put_entry, put_in_time, put_new, with_row}
@@ -76,11 +77,17 @@ module _ {K V : Type 0} {R : K → K → Ordering} (o : IsTotalOrder R) (exact :
       ∙ ap (table_of_last R) (entries_if (is_in_time timetable a) in_time a)
       ∙ with_entries_if (is_in_time timetable a) (entries_of entry in_time) (entry a.row)
 
+-- the registrations of units, after one more row
+pub leads-append : (leads : Leads) (history : History) (a : Accepted) → leads_from leads (history ++ a ∷ []) ≡ leads_with_row a.row (leads_from leads history)
+leads-append leads [] a = refl
+leads-append leads (x ∷ history) a = leads-append (leads_with_row x.row leads) history a
+
 pub looks_back : (timetable : Timetable) (history : History) (a : Accepted)
     → registered_in timetable (history ++ a ∷ []) ≡ with_row (is_in_time timetable a) a.row (registered_in timetable history)
 looks_back timetable history a = λ i. record {
   parties = last-append bytes_total exact_bytes party_entry history a i;
   units = last-append bytes_total exact_bytes unit_entry history a i;
+  leads = leads-append [] history a i;
   references = first-append bytes_total exact_bytes reference_entry history a i;
   meters = last-append unit_period_total exact_unit_periods meter_entry history a i;
   prices = last-append settlement_period_total exact_settlement_periods price_entry history a i;

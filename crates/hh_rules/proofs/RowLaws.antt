@@ -39,6 +39,7 @@ module _ (timetable : Timetable) (moment : ℤ) (tables : Registered) where
   keeps_rows_in_force (row.Contract r) late = record {
     parties = refl;
     units = refl;
+    leads = refl;
     meters = refl;
     prices = refl;
     contracts = ap (λ t. put_in_time contract_key_cmp t (contract_entry (row.Contract r)) tables.contracts) late;
@@ -47,6 +48,7 @@ module _ (timetable : Timetable) (moment : ℤ) (tables : Registered) where
   keeps_rows_in_force (row.Reallocation r) late = record {
     parties = refl;
     units = refl;
+    leads = refl;
     meters = refl;
     prices = refl;
     contracts = refl;

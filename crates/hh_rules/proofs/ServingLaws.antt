@@ -26,7 +26,7 @@ use Rattle.hh_rows.specs.declared.rows.Row.{Row}
 use Rattle.hh_rows.specs.declared.rows.Row.TheVariants as row
 use Rattle.hh_rows.specs.Quantities.{hundred_percent}
 use Rattle.hh_rules.specs.declared.timing.Timing.{Timing}
-use Rattle.hh_rules.specs.History.{Registered}
+use Rattle.hh_rules.specs.History.{Registered, leads_with_row}
 use Rattle.hh_rules.specs.Lateness.{accepted_at, comes_in_time, is_in_time, lacks_period, timing_of}
 use Rattle.hh_rules.specs.Percents.{percent_of_others}
 use Rattle.hh_rules.specs.Refusals.{Standing, is_some_that, is_unit_moved, most_parties, most_units, refusals_of}
@@ -72,13 +72,13 @@ module _ (timing : Timing) (whole part : Standing) (parties : part.party_count �
   judged_alike (row.Party r) party = λ i. first_met (
       (refusal.ShrinksRange, is_some_that (λ p. not (is_inside p.range r.registration.range)) (party i))
       ∷ (refusal.TooMany, is_none (party i) && nat_le most_parties (parties i)) ∷ [])
-  judged_alike (row.Unit r) (party, unit) = λ i. first_met (
+  judged_alike (row.Unit r) (party, unit, leads) = λ i. first_met (
       (refusal.UnknownParty, is_none (party i))
       ∷ (refusal.NotEffective, is_some_that (λ p. not (is_inside r.registration.range p.range)) (party i))
       ∷ (refusal.ShrinksRange, is_some_that (λ u. not (is_inside u.range r.registration.range)) (unit i))
       ∷ (refusal.UnitMoved, is_some_that (λ u. is_unit_moved u r.registration) (unit i))
       ∷ (refusal.TooMany, is_none (unit i) && nat_le most_units (units i)) ∷ [])
-  judged_alike (row.Meter r) (unit, reading) = λ i. first_met (
+  judged_alike (row.Meter r) (unit, reading, leads) = λ i. first_met (
       (refusal.UnknownUnit, is_none (unit i))
       ∷ (refusal.NotEffective, is_some_that (λ u. not (holds u.range r.key.at.date)) (unit i))
       ∷ (refusal.NoSuchPeriod, lacks_period timing) ∷ [])
@@ -88,7 +88,7 @@ module _ (timing : Timing) (whole part : Standing) (parties : part.party_count �
       ∷ (refusal.NotEffective, is_some_that (λ p. not (holds p.range r.key.at.date)) (seller i) || is_some_that (λ p. not (holds p.range r.key.at.date)) (buyer i))
       ∷ (refusal.NoSuchPeriod, lacks_period timing)
       ∷ counterparty_refusals (reference i) r.contract.counterparties)
-  judged_alike (row.Reallocation r) (party, unit, rows) =
+  judged_alike (row.Reallocation r) (party, unit, rows, leads) =
       let others : percent_of_others r.key part.tables.reallocations ≡ percent_of_others r.key whole.tables.reallocations =
       others_at part.tables r.key
       ∙ ap (total (λ e. cond (not (is_same_account e.0.account r.key.account)) e.1.percent (pos 0))) rows
@@ -157,7 +157,7 @@ module _ (whole part : Registered) where
 
   own_unit : (r : Row) → AgreesOn whole part r → AgreesAt bytes_cmp (unit_entry r) whole.units part.units
   own_unit (row.Party r) agrees = tt
-  own_unit (row.Unit r) (party, unit) = unit
+  own_unit (row.Unit r) (party, unit, leads) = unit
   own_unit (row.Meter r) agrees = tt
   own_unit (row.Price r) agrees = tt
   own_unit (row.Contract r) agrees = tt
@@ -184,13 +184,15 @@ module _ (whole part : Registered) where
       → (in_time : Bool) (r : Row) → AgreesOn whole part r → (other : Row) → AgreesOn whole part other → AgreesOn (with_row in_time r whole) (with_row in_time r part) other
   agrees_after rising rising_part in_time r own (row.Party x) party =
       alike-put_entry bytes_total whole.parties part.parties x.party party (party_entry r)
-  agrees_after rising rising_part in_time r own (row.Unit x) (party, unit) = (
+  agrees_after rising rising_part in_time r own (row.Unit x) (party, unit, leads) = (
     alike-put_entry bytes_total whole.parties part.parties x.registration.lead.party party (party_entry r),
     alike-put_entry bytes_total whole.units part.units x.unit unit (unit_entry r),
+    ap (leads_with_row r) leads,
   )
-  agrees_after rising rising_part in_time r own (row.Meter x) (unit, reading) = (
+  agrees_after rising rising_part in_time r own (row.Meter x) (unit, reading, leads) = (
     alike-put_entry bytes_total whole.units part.units x.key.unit unit (unit_entry r),
     alike-put_entry unit_period_total whole.meters part.meters x.key reading (meter_entry r),
+    ap (leads_with_row r) leads,
   )
   agrees_after rising rising_part in_time r own (row.Price x) price =
       alike-put_entry settlement_period_total whole.prices part.prices x.at price (price_entry r)
@@ -200,12 +202,13 @@ module _ (whole part : Registered) where
     alike-put_new bytes_total whole.references part.references x.key.reference reference (reference_entry r) (own_reference r own),
     alike-put_in_time contract_key_total whole.contracts part.contracts x.key volume in_time (contract_entry r),
   )
-  agrees_after rising rising_part in_time r own (row.Reallocation x) (party, unit, rows) = (
+  agrees_after rising rising_part in_time r own (row.Reallocation x) (party, unit, rows, leads) = (
     alike-put_entry bytes_total whole.parties part.parties x.key.account.party party (party_entry r),
     alike-put_entry bytes_total whole.units part.units x.key.unit_period.unit unit (unit_entry r),
     reallocations_after part rising_part in_time (reallocation_entry r) x.key.unit_period
         ∙ ap (put_here x.key.unit_period in_time (reallocation_entry r)) rows
         ∙ sym (reallocations_after whole rising in_time (reallocation_entry r) x.key.unit_period),
+    ap (leads_with_row r) leads,
   )
 
 -- a part that serves for a row and for more rows serves for those after a row that both accept

@@ -15,7 +15,7 @@ use Rattle.hh_rows.specs.declared.rows.Row.TheVariants as row
 use Rattle.hh_rules.specs.declared.row_done.RowDone.{RowDone}
 use Rattle.hh_rules.specs.declared.row_done.RowDone.TheVariants.{Applied, Late}
 use Rattle.hh_rules.specs.Entries.{party_entry, unit_entry, reference_entry, meter_entry, price_entry, contract_entry, reallocation_entry}
-use Rattle.hh_rules.specs.History.{History, Registered, registered_in}
+use Rattle.hh_rules.specs.History.{History, Registered, leads_with_row, registered_in}
 use Rattle.hh_rules.specs.Lateness.{Timetable, Accepted}
 use Rattle.hh_rules.specs.Refusals.{Standing, whole_standing}
 
@@ -54,6 +54,7 @@ abbrev pub with_row : Bool → Row → Registered → Registered
 with_row in_time r tables = record {
   parties = put_entry bytes_cmp (party_entry r) tables.parties;
   units = put_entry bytes_cmp (unit_entry r) tables.units;
+  leads = leads_with_row r tables.leads;
   references = put_new bytes_cmp (reference_entry r) tables.references;
   meters = put_entry unit_period_cmp (meter_entry r) tables.meters;
   prices = put_entry settlement_period_cmp (price_entry r) tables.prices;
@@ -73,6 +74,7 @@ standing_with in_time r standing = record {
 pub record KeepsRowsInForce (old new : Registered) : Type 0 where
   pub parties : new.parties ≡ old.parties
   pub units : new.units ≡ old.units
+  pub leads : new.leads ≡ old.leads
   pub meters : new.meters ≡ old.meters
   pub prices : new.prices ≡ old.prices
   pub contracts : new.contracts ≡ old.contracts

@@ -21,6 +21,7 @@ pub use Rattle.hh_names.specs.Quantities
 pub use Rattle.hh_names.specs.Ranges
 pub use Rattle.hh_names.specs.Totals
 pub use Rattle.hh_names.specs.Words
+pub use Rattle.hh_registrations.specs.Registrations
 pub use Rattle.hh_rows.specs.declared.file_kind
 pub use Rattle.hh_rows.specs.declared.keys
 pub use Rattle.hh_rows.specs.declared.rows

@@ -25,7 +25,7 @@ use Rattle.hh_rows.specs.declared.rows.Row.TheVariants as row
 use Rattle.hh_rows.specs.Zone.{midnight_in}
 use Rattle.hh_rules.specs.declared.row_done.RowDone.{RowDone}
 use Rattle.hh_rules.specs.Effects.{IsOneMoreRow, fixes_reference, row_done, standing_with}
-use Rattle.hh_rules.specs.History.{Registered, nothing_registered}
+use Rattle.hh_rules.specs.History.{Leads, Registered, nothing_registered}
 use Rattle.hh_rules.specs.Lateness.{Timetable, accepted_at, is_in_time, timing_of}
 use Rattle.hh_rules.specs.Refusals.{Standing, passes_hundred, refusals_of}
 
@@ -85,6 +85,9 @@ module _ (register : RegisterView) where
   abbrev pub holding_unit : List ℕ → UnitRegistration → RegisterView
   holding_unit unit registration =
       with_tables (record (tables_in register) { units = put bytes_cmp unit registration (tables_in register).units }) register
+
+  abbrev pub holding_leads : Leads → RegisterView
+  holding_leads leads = with_tables (record (tables_in register) { leads = leads }) register
 
   abbrev pub holding_reference : List ℕ → Counterparties → RegisterView
   holding_reference reference counterparties =
@@ -167,14 +170,20 @@ abbrev pub AgreesOnReference : Registered → Registered → List ℕ → Type 0
 AgreesOnReference whole part reference =
     find bytes_cmp reference part.references ≡ find bytes_cmp reference whole.references
 
--- the part has the same as the whole for all that the row is judged by, and for the row in force of its key
+-- both registers have the same registrations of units
+abbrev pub AgreesOnLeads : Registered → Registered → Type 0
+AgreesOnLeads whole part = part.leads ≡ whole.leads
+
+-- The part has the same as the whole for all that the row is judged by, and for the row in force of its key. For a row that names a
+-- unit it has the registrations of all units.
 abbrev pub AgreesOn : Registered → Registered → Row → Type 0
 AgreesOn whole part (row.Party r) = AgreesOnParty whole part r.party
 AgreesOn whole part (row.Unit r) =
-    AgreesOnParty whole part r.registration.lead.party × AgreesOnUnit whole part r.unit
+    AgreesOnParty whole part r.registration.lead.party × AgreesOnUnit whole part r.unit × AgreesOnLeads whole part
 AgreesOn whole part (row.Meter r) =
     AgreesOnUnit whole part r.key.unit
     × (find unit_period_cmp r.key part.meters ≡ find unit_period_cmp r.key whole.meters)
+    × AgreesOnLeads whole part
 AgreesOn whole part (row.Price r) =
     find settlement_period_cmp r.at part.prices ≡ find settlement_period_cmp r.at whole.prices
 AgreesOn whole part (row.Contract r) =
@@ -186,6 +195,7 @@ AgreesOn whole part (row.Reallocation r) =
     AgreesOnParty whole part r.key.account.party
     × AgreesOnUnit whole part r.key.unit_period.unit
     × (reallocations_at part r.key.unit_period ≡ reallocations_at whole r.key.unit_period)
+    × AgreesOnLeads whole part
 
 -- A part serves for some rows: notifications close when the whole's do, and it counts all parties and units. It has all that the
 -- rows are judged by, and the rows in force of their keys.

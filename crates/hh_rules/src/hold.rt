@@ -2,10 +2,11 @@
 
 ghost use Rattle.std.specs.Prelude.{◌≡◌, OnOk, OnErr};
 ghost use Rattle.hh_names.specs.Faults.{faults, IsOutcomeOrNoMemory};
-ghost use Rattle.hh_rules.specs.RegisterView.{held_reallocation, holding_contract, holding_party, holding_price, holding_reading, holding_reallocation, holding_reference, holding_unit};
+ghost use Rattle.hh_rules.specs.RegisterView.{held_reallocation, holding_contract, holding_leads, holding_party, holding_price, holding_reading, holding_reallocation, holding_reference, holding_unit};
 
 use crate::register::Register;
 use hh_names::{Counterparties, Fault, PartyId, Reading, Reallocation, Reference, Refusal, UnitId};
+use hh_registrations::LeadTable;
 use hh_rows::{
     ContractKey, Kwh, PartyRegistration, Price, ReallocationKey, ReallocationRow, SettlementPeriod,
     UnitPeriod, UnitRegistration,
@@ -37,6 +38,13 @@ impl Register {
         ensures err { OnErr result (self.new ≡ self.old) }
     {
         self.units.put_row(unit, registration)
+    }
+
+    /// Holds these registrations of units, in the place of those that it held.
+    pub fn hold_leads(&mut self, leads: LeadTable)
+        ensures { self.new ≡ holding_leads self.old leads }
+    {
+        self.leads = leads;
     }
 
     /// Holds the seller and the buyer of a reference, replacing those that it held. `Err` only if memory

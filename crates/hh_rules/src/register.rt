@@ -17,6 +17,7 @@ ghost use Rattle.hh_rules.specs.RegisterView.{after_row, done_at, empty_part, em
 use crate::last_asked::LastAsked;
 use crate::row_done::RowDone;
 use hh_names::{Counterparties, Fault, PartyId, Reading, Reallocation, Reference, UnitId};
+use hh_registrations::LeadTable;
 use hh_rows::{
     ContractKey, ContractRow, Kwh, LeadMinutes, MeterRow, PartyRegistration, PartyRow, Percent,
     Price, PriceRow, ReallocationKey, ReallocationRow, Row, SettlementPeriod, UnitPeriod,
@@ -38,6 +39,7 @@ pub struct Register {
     /// A list, so that the unit of a row is found behind that of the row before. A unit that is put in
     /// the middle moves all behind it. That is cheap enough only because there are at most 2,000.
     pub(crate) units: ListTable<UnitId, UnitRegistration>,
+    pub(crate) leads: LeadTable,
     pub(crate) references: TreeTable<Reference, Counterparties>,
     pub(crate) meters: TreeTable<UnitPeriod, Reading>,
     pub(crate) prices: TreeTable<SettlementPeriod, Price>,
@@ -59,6 +61,7 @@ impl Model for Register {
         tables = record {
           parties = r.parties;
           units = r.units;
+          leads = r.leads;
           references = r.references;
           meters = r.meters;
           prices = r.prices;
@@ -97,6 +100,7 @@ impl Register {
             unit_count,
             parties: TreeTable::new(alloc),
             units: ListTable::new(alloc),
+            leads: LeadTable::new(alloc),
             references: TreeTable::new(alloc),
             meters: TreeTable::new(alloc),
             prices: TreeTable::new(alloc),
@@ -293,9 +297,13 @@ impl Register {
         ensures ok { OnOk result (self.new ≡ after_row true (rows.Unit row) self.old) }
         ensures err { OnErr result (self.new ≡ self.old) }
     {
-        let is_new = self.units.get(&row.unit).is_none();
+        let before = self.units.get(&row.unit);
         self.units.put_row(row.unit, row.registration)?;
-        if is_new {
+        if let Err(refused) = self.leads.put(&row) {
+            self.units.put_back(&row.unit, before);
+            return Err(refused);
+        }
+        if before.is_none() {
             self.unit_count += 1;
         }
         Ok(())

@@ -4,9 +4,9 @@ use Rattle.clap.specs.Words.{Text}
 use Rattle.hh_devices.specs.DeviceChanges.{DeviceChange}
 use Rattle.hh_host.specs.Views.{HostView}
 use Rattle.hh_kept_office.specs.Places.{Places, any_places}
-use Rattle.hh_kept_office.proofs.AnyLaws.{ends_any, makes_any, script_any}
+use Rattle.hh_kept_office.proofs.AnyLaws.{ends_any, makes_any, migrates_any, script_any}
 use Rattle.hh_words.specs.Lines.{DatabaseCommand, Line, PeriodCommand, ScriptCommand}
-use Rattle.hh_words.specs.Tasks.{Task, ToInit, ToLoad, ToReport, ToRun, ToRunScript, ToServe}
+use Rattle.hh_words.specs.Tasks.{Task, ToInit, ToLoad, ToMigrate, ToReport, ToRun, ToRunScript, ToServe}
 use Rattle.hh_settle.specs.declared.stop.Stop.{Stop}
 use Rattle.hh_settle.specs.Stops.{Does, DoesWords, Stops, StopsLine, StopsWords}
 use Rattle.hh_settle.specs.Tasks.{DoesTask, EndsAsked, StopsAsked, StopsTask}
@@ -18,6 +18,7 @@ module _ (host : HostView) (places : Places) (strict : Bool) where
 
     does_task : (task : Task) → DoesTask host places path device strict task → DoesTask host any_places path device strict task
     does_task (ToInit settings) makes = makes_any places path device settings (Ok tt) makes
+    does_task ToMigrate migrates = migrates_any places path device (Ok tt) migrates
     does_task (ToLoad load) ends = asked_any (ToLoad load) (Ok tt) ends
     does_task (ToRun run) ends = asked_any (ToRun run) (Ok tt) ends
     does_task (ToReport asked) ends = asked_any (ToReport asked) (Ok tt) ends
@@ -30,6 +31,7 @@ module _ (host : HostView) (places : Places) (strict : Bool) where
 
     stops_task : (task : Task) (s : Stop) → StopsTask host places path device strict task s → StopsTask host any_places path device strict task s
     stops_task (ToInit settings) s (why, is, makes) = (why, is, makes_any places path device settings (Err why) makes)
+    stops_task ToMigrate s (why, is, migrates) = (why, is, migrates_any places path device (Err why) migrates)
     stops_task (ToLoad load) s stops = stops_asked (ToLoad load) s stops
     stops_task (ToRun run) s stops = stops_asked (ToRun run) s stops
     stops_task (ToReport asked) s stops = stops_asked (ToReport asked) s stops

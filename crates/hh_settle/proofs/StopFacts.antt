@@ -25,7 +25,7 @@ use Rattle.hh_kept_office.specs.declared.scripts.ScriptPathStop.{ScriptPathStop}
 use Rattle.hh_kept_office.specs.declared.scripts.ScriptPathStop.TheVariants as at
 use Rattle.hh_kept_office.specs.Places.{Connected, Places}
 use Rattle.hh_kept_office.specs.Scripts.{EndsScript, RunsFile, script_at}
-use Rattle.hh_words.specs.Tasks.{Task, ToInit, ToLoad, ToReport, ToRun, ToRunScript, ToServe}
+use Rattle.hh_words.specs.Tasks.{Task, ToInit, ToLoad, ToMigrate, ToReport, ToRun, ToRunScript, ToServe}
 use Rattle.hh_settle.specs.Stopping.{period_stop, script_stop}
 use Rattle.hh_settle.specs.Tasks.{StopsAsked, StopsTask, path_stop, script_path_stop}
 use Rattle.hh_words.specs.Lines.{DatabaseCommand, Line, PeriodCommand, ScriptCommand, line_value}
@@ -155,6 +155,7 @@ module _ (host : HostView) (places : Places) (strict : Bool) (words : List Text)
   task_bad_line : (path : Text) (task : Task) → line_value words ≡ Some (DatabaseCommand path task) → (s : Stop) (line : ℕ) (word : BadWord)
       → StopsTask host places path out strict task s → s ≡ stop.BadLine line word → told line word → IsOfBadLine
   task_bad_line path (ToInit settings) is s line word (why, from, makes) same tells = not_bad_line why line word (sym from ∙ same)
+  task_bad_line path ToMigrate is s line word (why, from, migrates) same tells = not_bad_line why line word (sym from ∙ same)
   task_bad_line path (ToLoad load) is s line word stops same tells = asked_bad_line path (ToLoad load) s line word stops same
   task_bad_line path (ToRun run) is s line word stops same tells = asked_bad_line path (ToRun run) s line word stops same
   task_bad_line path (ToReport asked) is s line word stops same tells = asked_bad_line path (ToReport asked) s line word stops same

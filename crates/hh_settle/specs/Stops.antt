@@ -6,15 +6,11 @@ use Rattle.hh_devices.specs.DeviceChanges.{DeviceChange, HasFailed}
 use Rattle.hh_devices.specs.Devices.{AppendsFront}
 use Rattle.hh_names.specs.Faults.{ByRefusal}
 use Rattle.hh_rows.specs.declared.settings.Settings.{Settings}
-use Rattle.hh_inputs.specs.declared.inputs.InputFault.{InputFault}
-use Rattle.hh_inputs.specs.declared.inputs.InputFault.TheVariants.{Memory}
 use Rattle.hh_host.specs.Views.{HostView}
 use Rattle.hh_script.specs.declared.bad_word.BadWord.{BadWord}
 use Rattle.hh_kept_office.specs.script.ScriptStop.{ScriptStop}
 use Rattle.hh_kept_office.specs.script.ScriptStop.TheVariants as script
 use Rattle.hh_kept_office.specs.Script.{IsUnread, StopsAt, WritesScript}
-use Rattle.hh_period.specs.declared.inputs.PeriodFault.{PeriodFault}
-use Rattle.hh_period.specs.declared.inputs.PeriodFault.TheVariants as period
 use Rattle.hh_period.specs.declared.rejection.Rejection.{Rejection}
 use Rattle.hh_period.specs.Outcome.{memory_rejection, period_outcome, Outcome}
 use Rattle.hh_period.specs.RejectionText.{rejection_text}

@@ -4,16 +4,14 @@ use Rattle.clap.specs.Words.{Text}
 use Rattle.hh_devices.specs.DeviceChanges.{DeviceChange}
 use Rattle.hh_store.specs.StoreFaults.{store_fault}
 use Rattle.hh_host.specs.Views.{HostView}
-use Rattle.hh_kept_office.specs.script.ScriptStop.{ScriptStop}
-use Rattle.hh_kept_office.specs.script.ScriptStop.TheVariants as script
 use Rattle.hh_kept_office.specs.declared.path.PathStop.{PathStop}
 use Rattle.hh_kept_office.specs.declared.path.PathStop.TheVariants as path
 use Rattle.hh_kept_office.specs.declared.scripts.ScriptPathStop.{ScriptPathStop}
 use Rattle.hh_kept_office.specs.declared.scripts.ScriptPathStop.TheVariants as at
-use Rattle.hh_kept_office.specs.Paths.{EndsAt, MakesAt}
+use Rattle.hh_kept_office.specs.Paths.{EndsAt, MakesAt, MigratesAt}
 use Rattle.hh_kept_office.specs.Places.{Places}
 use Rattle.hh_kept_office.specs.Scripts.{EndsScript}
-use Rattle.hh_words.specs.Tasks.{Task, ToInit, ToLoad, ToReport, ToRun, ToRunScript, ToServe}
+use Rattle.hh_words.specs.Tasks.{Task, ToInit, ToLoad, ToMigrate, ToReport, ToRun, ToRunScript, ToServe}
 use Rattle.hh_kept_office.specs.Errands.{ErrandStep, Load, Report, Run, Serve}
 use Rattle.hh_kept_office.specs.errand.ErrandStop.TheVariants as errand
 use Rattle.hh_settle.specs.Stopping.{script_stop}
@@ -33,6 +31,7 @@ AsksOfOffice (ToRun r) step = (moment : ℤ) × IsMoment r.at moment × (step �
 AsksOfOffice (ToReport r) step = step ≡ Report (record { key = r.key; report = r.report })
 AsksOfOffice (ToServe s) step = step ≡ Serve (record { at = s.at; port = s.port; count = s.count })
 AsksOfOffice (ToInit settings) step = ⊥
+AsksOfOffice ToMigrate step = ⊥
 AsksOfOffice (ToRunScript file) step = ⊥
 
 -- the clock is asked for the moment of a task
@@ -65,6 +64,7 @@ module _ (host : HostView) (places : Places) (path : Text) (device : DeviceChang
   -- a task is done; a script may be strict
   abbrev pub DoesTask : Bool → Task → Type 0
   DoesTask strict (ToInit settings) = MakesAt places path device settings (Ok tt)
+  DoesTask strict ToMigrate = MigratesAt places path device (Ok tt)
   DoesTask strict (ToRunScript file) = EndsScript host device file strict places path (Ok tt)
   DoesTask strict task = EndsAsked task (Ok tt)
 
@@ -75,5 +75,6 @@ module _ (host : HostView) (places : Places) (path : Text) (device : DeviceChang
   -- a task stops for this reason; a script may be strict
   abbrev pub StopsTask : Bool → Task → Stop → Type 0
   StopsTask strict (ToInit settings) s = (why : PathStop) × (s ≡ path_stop why) × MakesAt places path device settings (Err why)
+  StopsTask strict ToMigrate s = (why : PathStop) × (s ≡ path_stop why) × MigratesAt places path device (Err why)
   StopsTask strict (ToRunScript file) s = (why : ScriptPathStop) × (s ≡ script_path_stop why) × EndsScript host device file strict places path (Err why)
   StopsTask strict task s = StopsAsked task s

@@ -11,7 +11,8 @@ use crate::stop::Stop;
 use hh_devices::Sink;
 use hh_host::{ClockFailed, Host};
 use hh_kept_office::{
-    DatabaseHost, Errand, Notes, Rising, Serving, make_office_at, run_errand_at, run_script_at,
+    DatabaseHost, Errand, Notes, Rising, Serving, make_office_at, migrate_at, run_errand_at,
+    run_script_at,
 };
 use hh_script::{LoadLine, ReportLine, RunLine};
 use hh_words::{DatabaseTask, DatabaseWords, LoadWords, ReportWords, RunWords, ServeWords};
@@ -48,6 +49,7 @@ pub(crate) fn on_database<
         DatabaseTask::Init(settings) => Ok(make_office_at(
             alloc, host, words.path, *settings, out,
         )?),
+        DatabaseTask::Migrate => Ok(migrate_at(alloc, host, words.path, out)?),
         DatabaseTask::Load(load) => load_at(alloc, host, words.path, load, out),
         DatabaseTask::Run(run) => run_at(alloc, host, words.path, run, out),
         DatabaseTask::Report(report) => report_at(alloc, host, words.path, report, out),

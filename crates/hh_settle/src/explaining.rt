@@ -296,7 +296,9 @@ fn of_task<S: Rising, D: DatabaseHost<Connection = Connection<S>>>(
         }
         DatabaseTask::Report(report) => Ok(Some(report_refused(alloc, &report.report, fault)?)),
         DatabaseTask::Script(file) => Ok(Some(script_refused(alloc, file, fault)?)),
-        DatabaseTask::Init(_) | DatabaseTask::Serve(_) => plain(alloc, refused(fault)),
+        DatabaseTask::Init(_) | DatabaseTask::Migrate | DatabaseTask::Serve(_) => {
+            plain(alloc, refused(fault))
+        }
     }
 }
 
@@ -326,6 +328,7 @@ fn of_file<H: Host>(alloc: Global, host: &H, command: &Command<'_>) -> Explanati
             DatabaseTask::Load(load) => of_unreadable(alloc, host, load.path),
             DatabaseTask::Script(file) => of_unreadable(alloc, host, file),
             DatabaseTask::Init(_)
+            | DatabaseTask::Migrate
             | DatabaseTask::Run(_)
             | DatabaseTask::Report(_)
             | DatabaseTask::Serve(_) => Ok(None),
@@ -339,6 +342,7 @@ fn of_socket<H: Host>(alloc: Global, host: &H, command: &Command<'_>) -> Explana
         Command::OnDatabase(words) => match &words.task {
             DatabaseTask::Serve(serve) => of_port(alloc, host, serve.port),
             DatabaseTask::Init(_)
+            | DatabaseTask::Migrate
             | DatabaseTask::Load(_)
             | DatabaseTask::Run(_)
             | DatabaseTask::Report(_)

@@ -17,7 +17,8 @@ use Rattle.hh_rules.specs.History.{Registered}
 use Rattle.hh_rules.specs.Positions.{position_key_cmp}
 use Rattle.hh_rules.specs.declared.positions.Position.{Position}
 use Rattle.hh_rules.specs.declared.positions.PositionKey.{PositionKey}
-use Rattle.hh_states.specs.Changes.{LoadChangeView, RunChangeView, effect_of_load}
+use Rattle.hh_states.specs.Changes.{LoadChangeView, RunChangeView}
+use Rattle.hh_registrations.specs.declared.lead_steps.LeadStep.{LeadStep}
 use Rattle.hh_states.specs.Beside.{is_among}
 use Rattle.hh_beside.specs.DayLaws.{HaveTheSame}
 use Rattle.hh_beside.specs.Keeping.{beside_with_load, beside_with_run, positions_with, touched_by}
@@ -30,7 +31,7 @@ use Rattle.hh_sqlrows.specs.Forms.{PutsAll, rows_under_keys}
 use Rattle.hh_sqlrows.specs.steps.Forms.{Puts, Removes}
 use Rattle.hh_sqlrows.specs.OfficeTables as forms
 use Rattle.hh_sqlchanges.specs.Writes.{ChangesByLoad, ChangesByRun, WritesBesideAnew}
-use Rattle.hh_sqlchanges.specs.steps.Becoming.{Becomes, StoresRunAlone, WritesBeside, touched_entry}
+use Rattle.hh_sqlchanges.specs.steps.Becoming.{StoresLoadAlone, StoresRunAlone, WritesBeside, touched_entry}
 use Rattle.hh_sqlchanges.proofs.StayLaws.{content_kept, positions_kept, settings_kept, stays_office, stays_then, touched_kept}
 
 -- ---- touched Settlement Periods that are put into a table
@@ -77,8 +78,8 @@ among_put_all (p ∷ ps) es at =
 beside_put : (changed : List (PositionKey × Position)) (periods : List SettlementPeriod) (old mid new : Database) → PutsAll forms.positions changed old mid
     → PutsAll forms.touched (map touched_entry periods) mid new → WritesBeside changed periods old new
 beside_put changed periods old mid new first second = record {
-  stays = stays_then old mid new (stays_office 26 old mid first.is_office first.others (omega arith) (omega arith)) (stays_office 28 mid new second.is_office second.others (omega arith) (omega arith));
-  content = λ kept. content_kept 28 mid.trees new.trees second.others (omega arith) kept ∙ content_kept 26 old.trees mid.trees first.others (omega arith) kept;
+  stays = stays_then old mid new (stays_office 26 old mid first.is_office first.others (omega arith) (λ e. omega (arith, e))) (stays_office 28 mid new second.is_office second.others (omega arith) (λ e. omega (arith, e)));
+  content = λ kept. content_kept 28 mid.trees new.trees second.others (omega arith) (omega arith) kept ∙ content_kept 26 old.trees mid.trees first.others (omega arith) (omega arith) kept;
   positions = positions_kept 28 mid.trees new.trees second.others (λ e. omega (arith, e)) ∙ first.rows;
   touched = λ at. ap (λ es. is_among (map (λ e. e.0) es) at) (second.rows ∙ ap (put_all settlement_period_cmp (map touched_entry periods)) (touched_kept 26 old.trees mid.trees first.others (λ e. omega (arith, e))))
       ∙ among_put_all periods _ at;
@@ -98,7 +99,7 @@ mark_put : (changed : List (PositionKey × Position)) (periods : List Settlement
 mark_put changed periods old mid new written marked = record {
   is_office = marked.is_office;
   settings = settings_kept 30 mid.trees new.trees marked.others (λ e. omega (arith, e)) ∙ written.stays.settings;
-  content = λ kept. content_kept 30 mid.trees new.trees marked.others (omega arith) kept ∙ written.content kept;
+  content = λ kept. content_kept 30 mid.trees new.trees marked.others (omega arith) (omega arith) kept ∙ written.content kept;
   positions = positions_kept 30 mid.trees new.trees marked.others (λ e. omega (arith, e)) ∙ written.positions;
   touched = λ at. ap (λ es. is_among (map (λ e. e.0) es) at) (touched_kept 30 mid.trees new.trees marked.others (λ e. omega (arith, e))) ∙ written.touched at;
   mark = ap (find forms.one_row_cmp (record {})) marked.rows ∙ find-put forms.one_row_cmp one_row_total (record {}) (record {}) true (rows_under_keys forms.marks mid.trees);
@@ -108,12 +109,12 @@ pub marked_anew : {X E : Type 0} (changed : List (PositionKey × Position)) (per
     → WritesBeside changed periods old mid → OnOk result (Puts forms.marks (record {}) true mid new) → OnOk result (WritesBesideAnew changed periods old new)
 marked_anew changed periods old mid new result written = on_ok_weaker result (mark_put changed periods old mid new written)
 
-pub load_changed : {X E : Type 0} (w : LoadChangeView) (changed : List (PositionKey × Position)) (periods : List SettlementPeriod) (old mid new : Database) (result : Result X E)
-    → Becomes (effect_of_load w) old mid → OnOk result (WritesBeside changed periods mid new) → OnOk result (ChangesByLoad w changed periods old new)
-load_changed w changed periods old mid new result stored = on_ok_weaker result (λ written. record {
+pub load_changed : {X E : Type 0} (w : LoadChangeView) (steps : List LeadStep) (changed : List (PositionKey × Position)) (periods : List SettlementPeriod) (old mid new : Database) (result : Result X E)
+    → StoresLoadAlone w steps old mid → OnOk result (WritesBeside changed periods mid new) → OnOk result (ChangesByLoad w steps changed periods old new)
+load_changed w steps changed periods old mid new result stored = on_ok_weaker result (λ written. record {
   stores = record {
-    stays = stays_then old mid new stored.stays written.stays;
-    content = λ kept. written.content kept ∙ stored.content kept;
+    stays = stays_then old mid new stored.stores.stays written.stays;
+    content = λ are kept. written.content kept ∙ stored.stores.content are kept;
   };
   positions = written.positions ∙ ap (λ b. put_all forms.positions.order changed b.positions) stored.beside;
   touched = λ at. written.touched at ∙ ap (λ b. is_among (periods ++ b.touched) at) stored.beside;
@@ -124,8 +125,8 @@ load_changed w changed periods old mid new result stored = on_ok_weaker result (
 run_untouched : (w : RunChangeView) (old mid new : Database) → StoresRunAlone w old mid → Removes forms.touched (λ at. at.date == w.key.date) mid new → ChangesByRun w old new
 run_untouched w old mid new stored removed = record {
   stores = record {
-    stays = stays_then old mid new stored.stores.stays (stays_office 28 mid new removed.is_office removed.others (omega arith) (omega arith));
-    content = λ own kept. content_kept 28 mid.trees new.trees removed.others (omega arith) kept ∙ stored.stores.content own kept;
+    stays = stays_then old mid new stored.stores.stays (stays_office 28 mid new removed.is_office removed.others (omega arith) (λ e. omega (arith, e)));
+    content = λ own kept. content_kept 28 mid.trees new.trees removed.others (omega arith) (omega arith) kept ∙ stored.stores.content own kept;
   };
   positions = positions_kept 28 mid.trees new.trees removed.others (λ e. omega (arith, e)) ∙ ap (λ b. b.positions) stored.beside;
   touched = ap (map (λ e. e.0)) removed.rows ∙ (sym (filter-map (λ at. not (at.date == w.key.date)) (λ e. e.0) _) ∙ ap (λ b. filter (λ at. not (at.date == w.key.date)) b.touched) stored.beside);
@@ -138,10 +139,10 @@ run_changed w date is old mid new result stored = on_ok_weaker result (λ remove
 
 -- ---- what is kept beside the content is as it should be after the load or the run
 
-pub alike_after_load : (w : LoadChangeView) (tables : Registered) (changed : List (PositionKey × Position)) (periods : List SettlementPeriod) (old new : Database) → ChangesByLoad w changed periods old new
+pub alike_after_load : (w : LoadChangeView) (tables : Registered) (steps : List LeadStep) (changed : List (PositionKey × Position)) (periods : List SettlementPeriod) (old new : Database) → ChangesByLoad w steps changed periods old new
     → put_all position_key_cmp changed (beside_in old.trees).positions ≡ positions_with w.rows tables.contracts (beside_in old.trees).positions → HaveTheSame periods (filter_map touched_by w.rows)
     → AreAlike (beside_in new.trees) (beside_with_load w tables (beside_in old.trees))
-alike_after_load w tables changed periods old new changes positions same =
+alike_after_load w tables steps changed periods old new changes positions same =
     (changes.positions ∙ positions, λ at. changes.touched at ∙ same_with_more periods (filter_map touched_by w.rows) (beside_in old.trees).touched same at)
 
 pub alike_after_run : (w : RunChangeView) (old new : Database) → ChangesByRun w old new → AreAlike (beside_in new.trees) (beside_with_run w (beside_in old.trees))

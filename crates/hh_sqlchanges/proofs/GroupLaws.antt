@@ -1,10 +1,13 @@
 -- What rows of a file that are all of one kind make of the content, and rows behind others.
-use Rattle.std.proofs.Common.{◌≡◌, ◌≤◌, ◌++◌, ◌∙◌, ℕ, suc, List, [], ◌∷◌, Option, Some, None, Result, IfOk, Ok, Err, Bool, true, false, length, arith, refl, sym, ap}
+use Rattle.std.proofs.Common.{◌≡◌, ◌≤◌, ◌++◌, ◌∙◌, ℕ, ℤ, suc, List, [], ◌∷◌, Option, Some, None, Result, IfOk, Ok, Err, Bool, true, false, length, IsTrue, arith, refl, subst, sym, ap}
 use Rattle.std.specs.List.{cons_option}
 use Rattle.std.specs.Prelude.{filter_map}
 use Rattle.hh_tables.specs.Tables.{put_all}
 use Rattle.sqlite.specs.Effect.{Database}
+use Rattle.hh_names.specs.declared.values.Reading.{Reading}
 use Rattle.hh_rows.specs.Keys.{contract_key_cmp, unit_period_cmp}
+use Rattle.hh_rows.specs.declared.keys.ContractKey.{ContractKey}
+use Rattle.hh_rows.specs.declared.keys.UnitPeriod.{UnitPeriod}
 use Rattle.hh_rows.specs.declared.rows.Row.{Row}
 use Rattle.hh_rows.specs.declared.rows.Row.TheVariants as row
 use Rattle.hh_rules.specs.Entries.{contract_entry, meter_entry}
@@ -18,7 +21,7 @@ use Rattle.hh_sqlrows.specs.Office.{IsOffice}
 use Rattle.hh_sqlrows.specs.OfficeTables as forms
 use Rattle.hh_sqlchanges.specs.steps.Becoming.{Becomes, BecomesOrLeaves}
 use Rattle.hh_sqlchanges.specs.steps.FileRows.{with_file_rows}
-use Rattle.hh_sqlchanges.proofs.StayLaws.{becomes_as, becomes_then, contracts_kept, meters_kept, parties_kept, prices_kept, reallocations_kept, references_kept, registered_becomes, units_kept}
+use Rattle.hh_sqlchanges.proofs.StayLaws.{becomes_as, becomes_then, contracts_kept, leads_kept, meters_kept, parties_kept, prices_kept, reallocations_kept, references_kept, registered_becomes, units_kept}
 
 -- ---- rows of one kind
 
@@ -58,6 +61,7 @@ module _ (old new : Database) where
       by_table puts = λ i. record {
         parties = parties_kept 6 old.trees new.trees puts.others (λ e. omega (arith, e)) i;
         units = units_kept 6 old.trees new.trees puts.others (λ e. omega (arith, e)) i;
+        leads = leads_kept 6 old.trees new.trees puts.others (λ e. omega (arith, e)) i;
         meters = puts.rows i;
         prices = prices_kept 6 old.trees new.trees puts.others (λ e. omega (arith, e)) i;
         references = references_kept 6 old.trees new.trees puts.others (λ e. omega (arith, e)) i;
@@ -72,6 +76,7 @@ module _ (old new : Database) where
       by_table puts = λ i. record {
         parties = parties_kept 12 old.trees new.trees puts.others (λ e. omega (arith, e)) i;
         units = units_kept 12 old.trees new.trees puts.others (λ e. omega (arith, e)) i;
+        leads = leads_kept 12 old.trees new.trees puts.others (λ e. omega (arith, e)) i;
         meters = meters_kept 12 old.trees new.trees puts.others (λ e. omega (arith, e)) i;
         prices = prices_kept 12 old.trees new.trees puts.others (λ e. omega (arith, e)) i;
         references = references_kept 12 old.trees new.trees puts.others (λ e. omega (arith, e)) i;
@@ -80,17 +85,19 @@ module _ (old new : Database) where
       }
 
   -- a group, or nothing
-  pub readings_put_or_not : {E : Type 0} (rs : List Row) → length (filter_map meter_entry rs) ≡ length rs → (r : Result Bool E)
-      → IfOk r (PutsAllOrLeavesIn office forms.meters (filter_map meter_entry rs) old new) → IfOk r (BecomesOrLeaves (with_file_rows rs) old new)
-  readings_put_or_not rs all (Ok true) puts = readings_put rs all puts
-  readings_put_or_not rs all (Ok false) same = same
-  readings_put_or_not rs all (Err e) puts = tt
+  pub readings_put_or_not : {E : Type 0} (rs : List Row) (entries : List (UnitPeriod × Reading)) → entries ≡ filter_map meter_entry rs → (r : Result Bool E) → IfOk r (λ written. IsTrue written → length entries ≡ length rs)
+      → IfOk r (PutsAllOrLeavesIn office forms.meters entries old new) → IfOk r (BecomesOrLeaves (with_file_rows rs) old new)
+  readings_put_or_not rs entries are (Ok true) all puts =
+      readings_put rs (subst (λ (es : List (UnitPeriod × Reading)). length es ≡ length rs) are (all refl)) (subst (λ (es : List (UnitPeriod × Reading)). PutsAll forms.meters es old new) are puts)
+  readings_put_or_not rs entries are (Ok false) all same = same
+  readings_put_or_not rs entries are (Err e) all puts = tt
 
-  pub volumes_put_or_not : {E : Type 0} (rs : List Row) → length (filter_map contract_entry rs) ≡ length rs → (r : Result Bool E)
-      → IfOk r (PutsAllOrLeavesIn office forms.contracts (filter_map contract_entry rs) old new) → IfOk r (BecomesOrLeaves (with_file_rows rs) old new)
-  volumes_put_or_not rs all (Ok true) puts = volumes_put rs all puts
-  volumes_put_or_not rs all (Ok false) same = same
-  volumes_put_or_not rs all (Err e) puts = tt
+  pub volumes_put_or_not : {E : Type 0} (rs : List Row) (entries : List (ContractKey × ℤ)) → entries ≡ filter_map contract_entry rs → (r : Result Bool E) → IfOk r (λ written. IsTrue written → length entries ≡ length rs)
+      → IfOk r (PutsAllOrLeavesIn office forms.contracts entries old new) → IfOk r (BecomesOrLeaves (with_file_rows rs) old new)
+  volumes_put_or_not rs entries are (Ok true) all puts =
+      volumes_put rs (subst (λ (es : List (ContractKey × ℤ)). length es ≡ length rs) are (all refl)) (subst (λ (es : List (ContractKey × ℤ)). PutsAll forms.contracts es old new) are puts)
+  volumes_put_or_not rs entries are (Ok false) all same = same
+  volumes_put_or_not rs entries are (Err e) all puts = tt
 
 -- ---- rows behind others
 

@@ -1,6 +1,7 @@
 pub mod AccountLaws
 pub mod BesideLaws
 pub mod GroupLaws
+pub mod LeadStepLaws
 pub mod LoadLaws
 pub mod RunLaws
 pub mod StayLaws

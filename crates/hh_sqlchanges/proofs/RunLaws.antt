@@ -60,10 +60,10 @@ results_shown (e ∷ es) rows own =
 module _ (old new : Database) where
   run_put : (key : RunKey) (summary : Summary) → Puts forms.runs key summary old new → Becomes (λ c. record c { runs = put run_key_cmp key summary c.runs }) old new
   run_put key summary puts = record {
-    stays = stays_office 18 old new puts.is_office puts.others (omega arith) (omega arith);
+    stays = stays_office 18 old new puts.is_office puts.others (omega arith) (λ e. omega (arith, e));
     content = λ kept i. record {
       settings = kept;
-      registered = registered_kept 18 old.trees new.trees puts.others (omega arith) i;
+      registered = registered_kept 18 old.trees new.trees puts.others (omega arith) (omega arith) i;
       files = files_kept 18 old.trees new.trees puts.others (λ e. omega (arith, e)) i;
       runs = puts.rows i;
       results = ap (map result_of) (results_kept 18 old.trees new.trees puts.others (λ e. omega (arith, e))) i;
@@ -77,10 +77,10 @@ module _ (old new : Database) where
   results_put : (es : List (ResultKey × AccountRow)) → PutsAll forms.results (map forms.amount_entry es) old new → AreOfTheirAccounts es
       → Becomes (λ c. record c { results = put_all result_key_cmp es c.results }) old new
   results_put es puts own = record {
-    stays = stays_office 20 old new puts.is_office puts.others (omega arith) (omega arith);
+    stays = stays_office 20 old new puts.is_office puts.others (omega arith) (λ e. omega (arith, e));
     content = λ kept i. record {
       settings = kept;
-      registered = registered_kept 20 old.trees new.trees puts.others (omega arith) i;
+      registered = registered_kept 20 old.trees new.trees puts.others (omega arith) (omega arith) i;
       files = files_kept 20 old.trees new.trees puts.others (λ e. omega (arith, e)) i;
       runs = runs_kept 20 old.trees new.trees puts.others (λ e. omega (arith, e)) i;
       results = (ap (map result_of) puts.rows ∙ results_shown es _ own) i;
@@ -93,10 +93,10 @@ module _ (old new : Database) where
 
   credits_put : (es : List (CreditKey × ℤ)) → PutsAll forms.credits es old new → Becomes (λ c. record c { credits = put_all credit_key_cmp es c.credits }) old new
   credits_put es puts = record {
-    stays = stays_office 22 old new puts.is_office puts.others (omega arith) (omega arith);
+    stays = stays_office 22 old new puts.is_office puts.others (omega arith) (λ e. omega (arith, e));
     content = λ kept i. record {
       settings = kept;
-      registered = registered_kept 22 old.trees new.trees puts.others (omega arith) i;
+      registered = registered_kept 22 old.trees new.trees puts.others (omega arith) (omega arith) i;
       files = files_kept 22 old.trees new.trees puts.others (λ e. omega (arith, e)) i;
       runs = runs_kept 22 old.trees new.trees puts.others (λ e. omega (arith, e)) i;
       results = ap (map result_of) (results_kept 22 old.trees new.trees puts.others (λ e. omega (arith, e))) i;
@@ -109,10 +109,10 @@ module _ (old new : Database) where
 
   postings_put : (es : List (PostingKey × ℤ)) → PutsAll forms.postings es old new → Becomes (λ c. record c { postings = put_all posting_key_cmp es c.postings }) old new
   postings_put es puts = record {
-    stays = stays_office 24 old new puts.is_office puts.others (omega arith) (omega arith);
+    stays = stays_office 24 old new puts.is_office puts.others (omega arith) (λ e. omega (arith, e));
     content = λ kept i. record {
       settings = kept;
-      registered = registered_kept 24 old.trees new.trees puts.others (omega arith) i;
+      registered = registered_kept 24 old.trees new.trees puts.others (omega arith) (omega arith) i;
       files = files_kept 24 old.trees new.trees puts.others (λ e. omega (arith, e)) i;
       runs = runs_kept 24 old.trees new.trees puts.others (λ e. omega (arith, e)) i;
       results = ap (map result_of) (results_kept 24 old.trees new.trees puts.others (λ e. omega (arith, e))) i;
@@ -131,7 +131,7 @@ run_written w old first second third new run results credits postings =
     let one = run_put old first w.key w.summary run in
     let three = credits_put second third w.credits credits in
     let four = postings_put third new w.postings postings in
-    let two_stays = stays_office 20 first second results.is_office results.others (omega arith) (omega arith) in
+    let two_stays = stays_office 20 first second results.is_office results.others (omega arith) (λ e. omega (arith, e)) in
     record {
       stores = record {
         stays = stays_then old third new (stays_then old second third (stays_then old first second one.stays two_stays) three.stays) four.stays;

@@ -3,6 +3,7 @@ use Rattle.std.proofs.Common.{true, ◌≡◌, ◌≢◌, ◌<◌, ◌∙◌, �
 use Rattle.sqlite_trees.specs.Tree.{Trees}
 use Rattle.sqlite.specs.Effect.{Database}
 use Rattle.hh_rules.specs.History.{Registered}
+use Rattle.hh_rules.specs.Registrations.{Leads}
 use Rattle.hh_states.specs.Content.{Content}
 use Rattle.hh_rows.specs.declared.settings.Settings.{Settings}
 use Rattle.hh_sqlrows.specs.Contents.{beside_in, content_of, registered_of, result_of}
@@ -69,11 +70,15 @@ module _ (tree : ℕ) (old new : Trees) (others : KeepsOthersIn office tree old 
   marks_kept : 30 ≢ tree → rows_under_keys forms.marks new ≡ rows_under_keys forms.marks old
   marks_kept apart = rows_kept forms.marks old new (others.1.1.1.1.1.1.1.1.1.1.1.1.1.1.1.0 apart)
 
+  pub leads_kept : 32 ≢ tree → rows_under_keys forms.leads new ≡ rows_under_keys forms.leads old
+  leads_kept apart = rows_kept forms.leads old new (others.1.1.1.1.1.1.1.1.1.1.1.1.1.1.1.1.0 apart)
+
   -- a change of a table beside what is registered and in force leaves that as it is
-  pub registered_kept : 14 < tree → registered_of new ≡ registered_of old
-  registered_kept beside = λ i. record {
+  pub registered_kept : 14 < tree → tree < 32 → registered_of new ≡ registered_of old
+  registered_kept beside low = λ i. record {
     parties = parties_kept (λ e. omega (arith, e, beside)) i;
     units = units_kept (λ e. omega (arith, e, beside)) i;
+    leads = leads_kept (λ e. omega (arith, e, low)) i;
     meters = meters_kept (λ e. omega (arith, e, beside)) i;
     prices = prices_kept (λ e. omega (arith, e, beside)) i;
     references = references_kept (λ e. omega (arith, e, beside)) i;
@@ -89,10 +94,10 @@ module _ (tree : ℕ) (old new : Trees) (others : KeepsOthersIn office tree old 
   }
 
   -- a change beside the content leaves the content
-  pub content_kept : 24 < tree → (kept : Settings) → content_of kept new ≡ content_of kept old
-  content_kept high kept = λ i. record {
+  pub content_kept : 24 < tree → tree < 32 → (kept : Settings) → content_of kept new ≡ content_of kept old
+  content_kept high low kept = λ i. record {
     settings = kept;
-    registered = registered_kept (omega (arith, high)) i;
+    registered = registered_kept (omega (arith, high)) low i;
     files = files_kept (λ e. omega (arith, e, high)) i;
     runs = runs_kept (λ e. omega (arith, e, high)) i;
     results = ap (map result_of) (results_kept (λ e. omega (arith, e, high))) i;
@@ -103,18 +108,18 @@ module _ (tree : ℕ) (old new : Trees) (others : KeepsOthersIn office tree old 
 
 module _ (tree : ℕ) (old new : Database) (is_office : IsOffice new) (others : KeepsOthersIn office tree old.trees new.trees) where
   -- a change of any table but those of the settings and of the mark
-  pub stays_office : 0 < tree → tree < 30 → StaysOffice old new
-  stays_office low high = record {
+  pub stays_office : 0 < tree → 30 ≢ tree → StaysOffice old new
+  stays_office low apart = record {
     is_office = is_office;
     settings = settings_kept tree old.trees new.trees others (λ e. omega (arith, e, low));
-    mark = marks_kept tree old.trees new.trees others (λ e. omega (arith, e, high));
+    mark = marks_kept tree old.trees new.trees others apart;
   }
 
   -- a change of what is registered and in force
   pub registered_becomes : (effect : Registered → Registered) → 0 < tree → tree < 16 → registered_of new.trees ≡ effect (registered_of old.trees)
       → Becomes (λ (c : Content). record c { registered = effect c.registered }) old new
   registered_becomes effect low high made = record {
-    stays = stays_office low (omega (arith, high));
+    stays = stays_office low (λ e. omega (arith, e, high));
     content = λ kept i. record {
       settings = kept;
       registered = made i;
@@ -127,6 +132,36 @@ module _ (tree : ℕ) (old new : Database) (is_office : IsOffice new) (others : 
     };
     beside = beside_kept tree old.trees new.trees others (omega (arith, high));
   }
+
+-- a change of the registrations of units
+pub leads_become : (old new : Database) → IsOffice new → KeepsOthersIn office 32 old.trees new.trees → (effect : Leads → Leads) → rows_under_keys forms.leads new.trees ≡ effect (rows_under_keys forms.leads old.trees)
+    → Becomes (λ (c : Content). record c { registered = record (c.registered) { leads = effect c.registered.leads } }) old new
+leads_become old new is_office others effect made = record {
+  stays = stays_office 32 old new is_office others (omega arith) (λ e. omega (arith, e));
+  content = λ kept i. record {
+    settings = kept;
+    registered = record {
+      parties = parties_kept 32 old.trees new.trees others (λ e. omega (arith, e)) i;
+      units = units_kept 32 old.trees new.trees others (λ e. omega (arith, e)) i;
+      leads = made i;
+      meters = meters_kept 32 old.trees new.trees others (λ e. omega (arith, e)) i;
+      prices = prices_kept 32 old.trees new.trees others (λ e. omega (arith, e)) i;
+      references = references_kept 32 old.trees new.trees others (λ e. omega (arith, e)) i;
+      contracts = contracts_kept 32 old.trees new.trees others (λ e. omega (arith, e)) i;
+      reallocations = reallocations_kept 32 old.trees new.trees others (λ e. omega (arith, e)) i;
+    };
+    files = files_kept 32 old.trees new.trees others (λ e. omega (arith, e)) i;
+    runs = runs_kept 32 old.trees new.trees others (λ e. omega (arith, e)) i;
+    results = ap (map result_of) (results_kept 32 old.trees new.trees others (λ e. omega (arith, e))) i;
+    credits = credits_kept 32 old.trees new.trees others (λ e. omega (arith, e)) i;
+    postings = postings_kept 32 old.trees new.trees others (λ e. omega (arith, e)) i;
+    is_in_step = true;
+  };
+  beside = λ i. record {
+    positions = positions_kept 32 old.trees new.trees others (λ e. omega (arith, e)) i;
+    touched = ap (map (λ e. e.0)) (touched_kept 32 old.trees new.trees others (λ e. omega (arith, e))) i;
+  };
+}
 
 -- ---- one change after the other
 
@@ -143,6 +178,10 @@ becomes_then f g old mid new first second = record {
   content = λ kept. second.content kept ∙ ap g (first.content kept);
   beside = second.beside ∙ first.beside;
 }
+
+-- the same, for the content that there was
+pub becomes_here : (f g : Content → Content) (old new : Database) → ((kept : Settings) → f (content_of kept old.trees) ≡ g (content_of kept old.trees)) → Becomes f old new → Becomes g old new
+becomes_here f g old new same it = record { stays = it.stays; content = λ kept. it.content kept ∙ same kept; beside = it.beside }
 
 pub becomes_as : (f g : Content → Content) (old new : Database) → ((c : Content) → f c ≡ g c) → Becomes f old new → Becomes g old new
 becomes_as f g old new same it = record { stays = it.stays; content = λ kept. it.content kept ∙ same _; beside = it.beside }

@@ -1,10 +1,9 @@
 //! Writing the rows of a file, a group by one statement where that can be.
 
-ghost use Rattle.std.specs.Prelude.{◌≡◌, filter_map, IfOk};
+ghost use Rattle.std.specs.Prelude.{◌≡◌, filter_map, length, IfOk, IsTrue};
 ghost use Rattle.hh_rules.specs.Entries.{contract_entry, meter_entry};
-ghost use Rattle.sqlite.specs.Held.{state};
-ghost use Rattle.hh_sqlrows.specs.Office.{IsOffice};
-ghost use Rattle.hh_sqlrows.specs.Reads.{Inside, MakesOffice, WritesInside};
+ghost use Rattle.hh_sqlrows.specs.Reads.{MakesByAnswer, MakesByAnswerIn, MakesOffice, WritesInside};
+ghost use Rattle.hh_sqlrows.specs.steps.Forms.{PutsAllOrLeavesIn};
 ghost use Rattle.hh_sqlchanges.specs.steps.Becoming.{Becomes, BecomesOrLeaves};
 ghost use Rattle.hh_sqlchanges.specs.steps.FileRows.{with_file_row, with_file_rows};
 
@@ -12,7 +11,7 @@ use hh_names::Reading;
 use hh_num::Kwh;
 use hh_rows::{ContractKey, Row, UnitPeriod};
 use hh_sqlrows::tables::{Contracts, Meters, Parties, Prices, Reallocations, Units};
-use hh_sqlrows::{GROUP, RowFault, insert_group, replace};
+use hh_sqlrows::{GROUP, Grouped, RowFault, insert_group, replace};
 use sqlite::{Alter, Transaction};
 use std::alloc::{AllocError, Global};
 
@@ -70,62 +69,45 @@ fn write_new_group<S: Alter>(
 }
 
 /// Writes a group of readings or of contracts by one statement, if their keys are new. `false` where not, or
-/// for other rows. Nothing is written then.
+/// where the rows are not all of one of these kinds. Nothing is written then.
 fn insert_rows<S: Alter>(
     tx: &mut Transaction<'_, S>,
     alloc: Global,
     rows: &[Row],
 ) -> Result<bool, RowFault>
     ensures frame { WritesInside S.Store tx.old tx.new result }
-    ensures writes { let old = state S.Store tx.old.conn.now in
-        let new = state S.Store tx.new.conn.now in
-        Inside old new (IsOffice old.now
-        → IfOk result (BecomesOrLeaves (with_file_rows rows.now) old.now new.now)) }
+    ensures writes { MakesByAnswer S.Store tx.old tx.new result
+        (BecomesOrLeaves (with_file_rows rows.now)) }
 {
     match rows.first() {
-        Some(Row::Meter(_)) => insert_readings(tx, alloc, rows),
-        Some(Row::Contract(_)) => insert_volumes(tx, alloc, rows),
+        Some(Row::Meter(_)) => {
+            let readings = readings_of(alloc, rows)?;
+            insert_whole::<Meters, S>(tx, alloc, rows, readings.as_slice())
+        }
+        Some(Row::Contract(_)) => {
+            let volumes = volumes_of(alloc, rows)?;
+            insert_whole::<Contracts, S>(tx, alloc, rows, volumes.as_slice())
+        }
         _ => Ok(false),
     }
 }
 
-/// Writes a group of readings by one statement, if their keys are new. `false` where not, or where a row is
-/// no reading. Nothing is written then.
-fn insert_readings<S: Alter>(
+/// Writes a group of a table's rows by one statement, if their keys are new. `false` where not, or where
+/// they are not as many as these rows of a file. Nothing is written then.
+fn insert_whole<T: Grouped, S: Alter>(
     tx: &mut Transaction<'_, S>,
     alloc: Global,
     rows: &[Row],
+    entries: &[(T::Key, T::Value)],
 ) -> Result<bool, RowFault>
     ensures frame { WritesInside S.Store tx.old tx.new result }
-    ensures writes { let old = state S.Store tx.old.conn.now in
-        let new = state S.Store tx.new.conn.now in
-        Inside old new (IsOffice old.now
-        → IfOk result (BecomesOrLeaves (with_file_rows rows.now) old.now new.now)) }
+    ensures puts { MakesByAnswerIn T.schema S.Store tx.old tx.new result
+        (PutsAllOrLeavesIn T.schema T.form entries.now) }
+    ensures whole { IfOk result (λ written.
+        IsTrue written → length entries.now ≡ length rows.now) }
 {
-    let readings = readings_of(alloc, rows)?;
-    if readings.len() == rows.len() {
-        insert_group::<Meters, S>(tx, alloc, readings.as_slice())
-    } else {
-        Ok(false)
-    }
-}
-
-/// Writes a group of contracts by one statement, if their keys are new. `false` where not, or where a row is
-/// no contract. Nothing is written then.
-fn insert_volumes<S: Alter>(
-    tx: &mut Transaction<'_, S>,
-    alloc: Global,
-    rows: &[Row],
-) -> Result<bool, RowFault>
-    ensures frame { WritesInside S.Store tx.old tx.new result }
-    ensures writes { let old = state S.Store tx.old.conn.now in
-        let new = state S.Store tx.new.conn.now in
-        Inside old new (IsOffice old.now
-        → IfOk result (BecomesOrLeaves (with_file_rows rows.now) old.now new.now)) }
-{
-    let volumes = volumes_of(alloc, rows)?;
-    if volumes.len() == rows.len() {
-        insert_group::<Contracts, S>(tx, alloc, volumes.as_slice())
+    if entries.len() == rows.len() {
+        insert_group::<T, S>(tx, alloc, entries)
     } else {
         Ok(false)
     }

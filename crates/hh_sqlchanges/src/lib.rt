@@ -9,6 +9,7 @@
 
 mod beside_writing;
 mod file_rows;
+mod lead_writing;
 mod load_writing;
 mod own_accounts;
 mod run_writing;

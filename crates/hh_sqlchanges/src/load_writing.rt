@@ -1,12 +1,13 @@
 //! Writing what an accepted file changes.
 
 ghost use Rattle.hh_sqlrows.specs.Reads.{MakesOffice, WritesInside};
-ghost use Rattle.hh_states.specs.Changes.{effect_of_load};
 ghost use Rattle.hh_sqlchanges.specs.Writes.{ChangesByLoad};
-ghost use Rattle.hh_sqlchanges.specs.steps.Becoming.{Becomes};
+ghost use Rattle.hh_sqlchanges.specs.steps.Becoming.{StoresLoadAlone};
 
 use crate::beside_writing::write_beside;
 use crate::file_rows::write_file_rows;
+use crate::lead_writing::write_lead_steps;
+use hh_registrations::LeadStep;
 use hh_rows::SettlementPeriod;
 use hh_rules::{Position, PositionKey};
 use hh_sqlrows::tables::{Files, References};
@@ -14,36 +15,40 @@ use hh_sqlrows::{LoadChange, RowFault, replace, replace_all};
 use sqlite::{Alter, Transaction};
 use std::alloc::Global;
 
-/// Writes what an accepted file changes: the file, its rows that are not late, and the references that it
-/// fixes. It also writes these positions, each of which replaces the one with its key, and marks these
-/// Settlement Periods as touched. After an `Err` a part of that may be written in the transaction, so it
-/// must be undone.
+/// Writes what an accepted file changes: the file, its rows that are not late, these steps in the
+/// registrations of units, and the references that the file fixes. It also writes these positions, each of
+/// which replaces the one with its key, and marks these Settlement Periods as touched. After an `Err` a
+/// part of that may be written in the transaction, so it must be undone.
 pub fn write_load<S: Alter>(
     tx: &mut Transaction<'_, S>,
     alloc: Global,
     change: &LoadChange,
+    leads: &[LeadStep],
     positions: &[(PositionKey, Position)],
     touched: &[SettlementPeriod],
 ) -> Result<(), RowFault>
     ensures frame { WritesInside S.Store tx.old tx.new result }
     ensures writes { MakesOffice S.Store tx.old tx.new result
-        (ChangesByLoad change.now positions.now touched.now) }
+        (ChangesByLoad change.now leads.now positions.now touched.now) }
 {
-    write_content(tx, alloc, change)?;
+    write_content(tx, alloc, change, leads)?;
     write_beside(tx, alloc, positions, touched)
 }
 
-/// Writes the file, its rows that are not late, and the references that it fixes.
+/// Writes the file, its rows that are not late, these steps in the registrations of units, and the
+/// references that the file fixes.
 fn write_content<S: Alter>(
     tx: &mut Transaction<'_, S>,
     alloc: Global,
     change: &LoadChange,
+    leads: &[LeadStep],
 ) -> Result<(), RowFault>
     ensures frame { WritesInside S.Store tx.old tx.new result }
     ensures writes { MakesOffice S.Store tx.old tx.new result
-        (Becomes (effect_of_load change.now)) }
+        (StoresLoadAlone change.now leads.now) }
 {
     replace::<Files, S>(tx, alloc, &change.key(), change.file())?;
     write_file_rows(tx, alloc, change.rows())?;
+    write_lead_steps(tx, alloc, leads)?;
     replace_all::<References, S>(tx, alloc, change.references())
 }

@@ -1,3 +1,4 @@
+mod HoldsLaws
 mod LeadsRise
 mod StatementFacts
 mod StepLaws

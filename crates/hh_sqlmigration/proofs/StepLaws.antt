@@ -22,17 +22,16 @@ use Rattle.hh_keyed_rows.specs.KeyedRows.{stored_entry, table_in}
 use Rattle.hh_registrations.specs.Registrations.{one_lead_each}
 use Rattle.hh_sqltables.specs.Forms.{PutsAllIn, PutsIn, TableForm, rows_under_keys}
 use Rattle.hh_sqltables.specs.Texts.{Makes}
-use Rattle.hh_sqlrows.specs.Holds.{HasSettings, settings_of}
-use Rattle.hh_sqlrows.specs.Office.{IsOffice}
-use Rattle.hh_sqlrows.specs.OfficeSchema.{office, office_tables}
-use Rattle.hh_sqlrows.specs.OfficeTables.{one_row_cmp, units}
+use Rattle.hh_sqlrows.specs.Holds.{HasSettings}
+use Rattle.hh_sqltables.specs.Forms.{IsOfficeOf}
+use Rattle.hh_sqlrows.specs.OfficeSchema.{leads_table, office, office_of_one, tables_of_one}
+use Rattle.hh_sqlrows.specs.OfficeTables.{leads, one_row_cmp, settings, units}
 use Rattle.hh_sqlrows.specs.facts.KeyOrders.{one_row_total}
-use Rattle.hh_sqlmigration.specs.Leads.{leads, leads_table, with_leads}
-use Rattle.hh_sqlmigration.specs.Versions.{BecomesTwo}
+use Rattle.hh_sqlmigration.specs.steps.ToTwo.{BecomesTwo}
 use Rattle.hh_sqlmigration.specs.steps.Writes.{WritesTwo}
 use Rattle.hh_sqlmigration.proofs.LeadsRise.{leads_rise}
 
-next_is : next_tree office ≡ 32
+next_is : next_tree office_of_one ≡ 32
 unfolding everything
 next_is = refl
 
@@ -51,11 +50,11 @@ but_last : {X : Type 0} (P : X → Type 0) (xs : List X) (x : X) → AllByRecurs
 but_last P [] x all = tt
 but_last P (y ∷ xs) x all = (all.0, but_last P xs x all.1)
 
-elsewhere : AllByRecursion (λ t. t.tree ≢ 32) office_tables
+elsewhere : AllByRecursion (λ t. t.tree ≢ 32) tables_of_one
 elsewhere = (λ e. omega (arith, e), (λ e. omega (arith, e), (λ e. omega (arith, e), (λ e. omega (arith, e), (λ e. omega (arith, e), (λ e. omega (arith, e), (λ e. omega (arith, e), (λ e. omega (arith, e), (λ e. omega (arith, e), (λ e. omega (arith, e), (λ e. omega (arith, e), (λ e. omega (arith, e), (λ e. omega (arith, e), (λ e. omega (arith, e), (λ e. omega (arith, e), (λ e. omega (arith, e), tt))))))))))))))))
 
 module _ (entries : List (LeadKey × LeadTerm)) (kept : Settings) (table : Table) (old made led last : Database)
-    (makes : Makes office with_leads table old made) (leading : PutsAllIn with_leads leads entries made led) (setting : PutsIn with_leads (settings_of 2) (record {}) kept led last) where
+    (makes : Makes office_of_one office table old made) (leading : PutsAllIn office leads entries made led) (setting : PutsIn office settings (record {}) kept led last) where
   none_before : made.trees 32 ≡ []
   none_before = subst (λ n. made.trees n ≡ []) next_is makes.empty
 
@@ -68,10 +67,10 @@ module _ (entries : List (LeadKey × LeadTerm)) (kept : Settings) (table : Table
   pub written : WritesTwo entries kept old last
   written = record {
     is_office = setting.is_office;
-    settings = ap (find one_row_cmp (record {})) setting.rows ∙ find-put one_row_cmp one_row_total (record {}) (record {}) kept (rows_under_keys (settings_of 2) led.trees);
+    settings = ap (find one_row_cmp (record {})) setting.rows ∙ find-put one_row_cmp one_row_total (record {}) (record {}) kept (rows_under_keys settings led.trees);
     leads = leads_are;
-    others = still office_tables old.trees made.trees led.trees last.trees makes.others (but_last (λ t. t.tree ≢ 32 → led.trees t.tree ≡ made.trees t.tree) office_tables leads_table leading.others)
-        (but_last (λ t. t.tree ≢ 0 → last.trees t.tree ≡ led.trees t.tree) office_tables leads_table setting.others) elsewhere;
+    others = still tables_of_one old.trees made.trees led.trees last.trees makes.others (but_last (λ t. t.tree ≢ 32 → led.trees t.tree ≡ made.trees t.tree) tables_of_one leads_table leading.others)
+        (but_last (λ t. t.tree ≢ 0 → last.trees t.tree ≡ led.trees t.tree) tables_of_one leads_table setting.others) elsewhere;
   }
 
 -- one registration for each unit of a database is a table
@@ -80,7 +79,7 @@ one_lead_each_rises trees =
     true_from _ (leads_rise (rows_under_keys units trees) (is_sorted-in_key_order bytes_total (filter_map (stored_entry units.key units.value) (trees units.table.tree))))
 
 -- if these are one registration for each unit, the step is made
-pub two_made : (old new : Database) (kept : Settings) (entries : List (LeadKey × LeadTerm)) → IsOffice old → HasSettings 1 kept old.trees → entries ≡ one_lead_each (rows_under_keys units old.trees)
+pub two_made : (old new : Database) (kept : Settings) (entries : List (LeadKey × LeadTerm)) → IsOfficeOf office_of_one old → HasSettings 1 kept old.trees → entries ≡ one_lead_each (rows_under_keys units old.trees)
     → WritesTwo entries kept old new → BecomesTwo old new
 two_made old new kept entries is settings are writes = record {
   from_one = is;

@@ -1,4 +1,2 @@
-pub mod Facts
-pub mod Leads
 pub mod Versions
 pub mod steps

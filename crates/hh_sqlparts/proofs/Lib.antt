@@ -1,5 +1,6 @@
 pub mod BesideLaws
 pub mod DayLaws
+mod LeadStepLaws
 pub mod MovedLaws
 pub mod NamedForms
 pub mod NamedNames

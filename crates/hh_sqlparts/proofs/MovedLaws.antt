@@ -71,11 +71,11 @@ in_force volumes = record nothing_registered { contracts = volumes }
 agrees_by_volume : (whole part : Table ContractKey ℤ) (r : Row) → IfSome (volume_key_of r) (λ k. find contract_key_cmp k part ≡ find contract_key_cmp k whole) → AgreesOn (in_force whole) (in_force part) r
 unfolding in_force
 agrees_by_volume whole part (row.Party r) volume = refl
-agrees_by_volume whole part (row.Unit r) volume = (refl, refl)
-agrees_by_volume whole part (row.Meter r) volume = (refl, refl)
+agrees_by_volume whole part (row.Unit r) volume = (refl, refl, refl)
+agrees_by_volume whole part (row.Meter r) volume = (refl, refl, refl)
 agrees_by_volume whole part (row.Price r) volume = refl
 agrees_by_volume whole part (row.Contract r) volume = (refl, refl, refl, volume)
-agrees_by_volume whole part (row.Reallocation r) volume = (refl, refl, refl)
+agrees_by_volume whole part (row.Reallocation r) volume = (refl, refl, refl, refl)
 
 -- if what was read suffices for rows, the positions that they change, put into the whole table, make of it what the rows make of it
 pub moved_in_whole : (rows : List Row) (whole_volumes volumes : Table ContractKey ℤ) (whole part moved : Table PositionKey Position) → T (is_sorted position_key_cmp whole)

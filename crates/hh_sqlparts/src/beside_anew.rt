@@ -9,7 +9,7 @@ ghost use Rattle.hh_sqlrows.specs.Contents.{registered_of};
 ghost use Rattle.hh_sqlrows.specs.Forms.{rows_under_keys};
 ghost use Rattle.hh_sqlrows.specs.OfficeTables.{contracts, references, runs};
 ghost use Rattle.hh_sqlparts.specs.BesideAnew.{HasNothingBeside, IsBesideAnew};
-ghost use Rattle.hh_sqlrows.specs.Reads.{OfOffice, OfSettled, ReadsSettled};
+ghost use Rattle.hh_sqlrows.specs.Reads.{FindsOffice, FindsSettled, ReadsSettled};
 
 use crate::tables::table_of;
 use hh_kept_rows::KeptRegister;
@@ -42,9 +42,7 @@ pub fn select_beside_anew<S: Alter>(
     alloc: Global,
 ) -> Result<BesideAnew, RowFault>
     ensures frame { ReadsSettled (state S.Store conn.old) (state S.Store conn.new) result }
-    ensures value { let old = state S.Store conn.old in
-        let new = state S.Store conn.new in
-        OfSettled old new (IfOk result (IsBesideAnew old.now.trees)) }
+    ensures value { FindsSettled S.Store conn.old conn.new result IsBesideAnew }
 {
     select_nothing_beside(conn, alloc)?;
     let positions = select_positions_anew(conn, alloc)?;
@@ -55,9 +53,8 @@ pub fn select_beside_anew<S: Alter>(
 /// `Store` if something is kept beside the tables.
 fn select_nothing_beside<S: Alter>(conn: &mut Connection<S>, alloc: Global) -> Result<(), RowFault>
     ensures frame { ReadsSettled (state S.Store conn.old) (state S.Store conn.new) result }
-    ensures value { let old = state S.Store conn.old in
-        let new = state S.Store conn.new in
-        OfSettled old new (OnOk result (HasNothingBeside old.now.trees)) }
+    ensures value { FindsSettled S.Store conn.old conn.new result
+        (λ trees _. HasNothingBeside trees) }
 {
     none_of(select_all::<tables::Positions, S>(conn, alloc)?)?;
     none_of(select_all::<Touched, S>(conn, alloc)?)
@@ -80,10 +77,8 @@ fn select_positions_anew<S: Alter>(
     alloc: Global,
 ) -> Result<Vec<(PositionKey, Position)>, RowFault>
     ensures frame { ReadsSettled (state S.Store conn.old) (state S.Store conn.new) result }
-    ensures value { let old = state S.Store conn.old in
-        let new = state S.Store conn.new in
-        OfSettled old new (IfOk result (λ found.
-        found.items ≡ positions_by (registered_of old.now.trees))) }
+    ensures value { FindsSettled S.Store conn.old conn.new result
+        (λ trees found. found.items ≡ positions_by (registered_of trees)) }
 {
     let tables = select_all_contracts(conn, alloc)?;
     Ok(positions_by(alloc, &tables)?)
@@ -107,11 +102,9 @@ fn select_all_contracts<S: Alter>(
     alloc: Global,
 ) -> Result<KeptRegister, RowFault>
     ensures frame { ReadsSettled (state S.Store conn.old) (state S.Store conn.new) result }
-    ensures value { let old = state S.Store conn.old in
-        let new = state S.Store conn.new in
-        OfSettled old new (IfOk result (λ part.
-        (part.contracts ≡ rows_under_keys contracts old.now.trees)
-        × (part.references ≡ rows_under_keys references old.now.trees))) }
+    ensures value { FindsSettled S.Store conn.old conn.new result
+        (λ trees part. (part.contracts ≡ rows_under_keys contracts trees)
+        × (part.references ≡ rows_under_keys references trees)) }
 {
     let mut part = KeptRegister::new(alloc);
     part.contracts = table_of(select_all::<Contracts, S>(conn, alloc)?)?;
@@ -162,10 +155,8 @@ fn select_periods_of_runs<S: Alter>(
     alloc: Global,
 ) -> Result<Vec<SettlementPeriod>, RowFault>
     ensures frame { ReadsSettled (state S.Store conn.old) (state S.Store conn.new) result }
-    ensures value { let old = state S.Store conn.old in
-        let new = state S.Store conn.new in
-        OfOffice old new (IfOk result (λ found.
-        found.items ≡ periods_of_runs (rows_under_keys runs old.now.trees))) }
+    ensures value { FindsOffice S.Store conn.old conn.new result
+        (λ trees found. found.items ≡ periods_of_runs (rows_under_keys runs trees)) }
 {
     match select_all::<Runs, S>(conn, alloc) {
         Ok(made) => periods_of_runs(alloc, &made),

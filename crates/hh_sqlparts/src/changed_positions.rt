@@ -1,6 +1,6 @@
 //! The positions that rows of a load change.
 
-ghost use Rattle.std.specs.Prelude.{◌≡◌, IfOk, OnOk};
+ghost use Rattle.std.specs.Prelude.{◌≡◌, OnOk};
 ghost use Rattle.std.specs.FinMap.{put};
 ghost use Rattle.hh_tables.specs.Tables.{put_all};
 ghost use Rattle.hh_rows.specs.Keys.{contract_key_cmp};
@@ -9,7 +9,7 @@ ghost use Rattle.hh_kept_rows.specs.Keeping.{positions_with, replaced_by};
 ghost use Rattle.sqlite.specs.Held.{state};
 ghost use Rattle.hh_sqlrows.specs.Forms.{rows_under_keys};
 ghost use Rattle.hh_sqlrows.specs.OfficeTables.{contracts, positions};
-ghost use Rattle.hh_sqlrows.specs.Reads.{OfSettled, ReadsSettled};
+ghost use Rattle.hh_sqlrows.specs.Reads.{FindsSettled, ReadsSettled};
 
 use crate::moved_positions::{select_positions_named, select_volumes_named};
 use hh_names::Contract;
@@ -29,12 +29,11 @@ pub fn select_positions_after<S: Alter>(
     rows: &[Row],
 ) -> Result<Vec<(PositionKey, Position)>, RowFault>
     ensures frame { ReadsSettled (state S.Store conn.old) (state S.Store conn.new) result }
-    ensures value { let old = state S.Store conn.old in
-        let new = state S.Store conn.new in
-        OfSettled old new (IfOk result (λ written.
-        put_all position_key_cmp written.items (rows_under_keys positions old.now.trees)
-        ≡ positions_with rows.now (rows_under_keys contracts old.now.trees)
-        (rows_under_keys positions old.now.trees))) }
+    ensures value { FindsSettled S.Store conn.old conn.new result
+        (λ trees written.
+        put_all position_key_cmp written.items (rows_under_keys positions trees)
+        ≡ positions_with rows.now (rows_under_keys contracts trees)
+        (rows_under_keys positions trees)) }
 {
     let mut volumes = select_volumes_named(conn, alloc, rows)?;
     let mut positions = select_positions_named(conn, alloc, rows)?;

@@ -9,7 +9,7 @@ ghost use Rattle.sqlite.specs.Held.{state};
 ghost use Rattle.hh_sqlrows.specs.Contents.{beside_in, content_of, result_of, touched_periods};
 ghost use Rattle.hh_sqlrows.specs.Forms.{rows_under_keys};
 ghost use Rattle.hh_sqlrows.specs.OfficeTables.{credits, positions, results, runs};
-ghost use Rattle.hh_sqlrows.specs.Reads.{OfOffice, OfSettled, ReadsOffice, ReadsSettled};
+ghost use Rattle.hh_sqlrows.specs.Reads.{FindsOffice, FindsSettled, ReadsOffice, ReadsSettled};
 
 use crate::tables::table_of;
 use hh_calc::AccountRow;
@@ -33,10 +33,8 @@ pub fn select_day_beside<S: Alter>(
     date: SettlementDate,
 ) -> Result<DayBeside, RowFault>
     ensures frame { ReadsSettled (state S.Store conn.old) (state S.Store conn.new) result }
-    ensures value { let old = state S.Store conn.old in
-        let new = state S.Store conn.new in
-        (settings : Settings) → OfSettled old new (IfOk result (λ day.
-        IsBesideOf (content_of settings old.now.trees) (beside_in old.now.trees) date day)) }
+    ensures value { (settings : Settings) → FindsSettled S.Store conn.old conn.new result
+        (λ trees. IsBesideOf (content_of settings trees) (beside_in trees) date) }
 {
     let latest = latest_on(conn, alloc, date)?;
     let results = results_of_latest(conn, alloc, &latest)?;
@@ -59,10 +57,9 @@ fn latest_on<S: Alter>(
     date: SettlementDate,
 ) -> Result<Option<(RunKey, Summary)>, RowFault>
     ensures frame { ReadsSettled (state S.Store conn.old) (state S.Store conn.new) result }
-    ensures value { let old = state S.Store conn.old in
-        let new = state S.Store conn.new in
-        OfOffice old new (IfOk result (λ latest. latest
-        ≡ last_of (filter (λ e. e.0.date == date) (rows_under_keys runs old.now.trees)))) }
+    ensures value { FindsOffice S.Store conn.old conn.new result
+        (λ trees latest. latest
+        ≡ last_of (filter (λ e. e.0.date == date) (rows_under_keys runs trees))) }
 {
     let runs = select_under::<Runs, SettlementDate, S>(conn, alloc, &date)?;
     Ok(runs.last().copied())
@@ -75,11 +72,10 @@ fn results_of_latest<S: Alter>(
     latest: &Option<(RunKey, Summary)>,
 ) -> Result<ListTable<ResultKey, AccountRow>, RowFault>
     ensures frame { ReadsSettled (state S.Store conn.old) (state S.Store conn.new) result }
-    ensures value { let old = state S.Store conn.old in
-        let new = state S.Store conn.new in
-        OfOffice old new (IfOk result (λ table. IfSome latest.now (λ run. table
+    ensures value { FindsOffice S.Store conn.old conn.new result
+        (λ trees table. IfSome latest.now (λ run. table
         ≡ filter (λ e. eq_by_cmp run_key_cmp e.0.run run.0)
-        (map result_of (rows_under_keys results old.now.trees))))) }
+        (map result_of (rows_under_keys results trees)))) }
 {
     match latest {
         Some(run) => {
@@ -110,11 +106,9 @@ fn credits_of_latest<S: Alter>(
     latest: &Option<(RunKey, Summary)>,
 ) -> Result<ListTable<CreditKey, Ticks>, RowFault>
     ensures frame { ReadsSettled (state S.Store conn.old) (state S.Store conn.new) result }
-    ensures value { let old = state S.Store conn.old in
-        let new = state S.Store conn.new in
-        OfOffice old new (IfOk result (λ table. IfSome latest.now (λ run. table
-        ≡ filter (λ e. eq_by_cmp run_key_cmp e.0.run run.0)
-        (rows_under_keys credits old.now.trees)))) }
+    ensures value { FindsOffice S.Store conn.old conn.new result
+        (λ trees table. IfSome latest.now (λ run. table
+        ≡ filter (λ e. eq_by_cmp run_key_cmp e.0.run run.0) (rows_under_keys credits trees))) }
 {
     match latest {
         Some(run) => table_of(select_under::<Credits, RunKey, S>(conn, alloc, &run.0)?),
@@ -129,11 +123,9 @@ fn positions_on<S: Alter>(
     date: SettlementDate,
 ) -> Result<ListTable<PositionKey, Position>, RowFault>
     ensures frame { ReadsSettled (state S.Store conn.old) (state S.Store conn.new) result }
-    ensures value { let old = state S.Store conn.old in
-        let new = state S.Store conn.new in
-        OfOffice old new (IfOk result (λ table. table
-        ≡ filter (λ e. is_eq (nat_cmp e.0.at.date date))
-        (rows_under_keys positions old.now.trees))) }
+    ensures value { FindsOffice S.Store conn.old conn.new result
+        (λ trees table. table
+        ≡ filter (λ e. is_eq (nat_cmp e.0.at.date date)) (rows_under_keys positions trees)) }
 {
     match select_under::<Positions, SettlementDate, S>(conn, alloc, &date) {
         Ok(rows) => table_of(rows),
@@ -148,10 +140,9 @@ fn select_touched_on<S: Alter>(
     date: &SettlementDate,
 ) -> Result<Vec<SettlementPeriod>, RowFault>
     ensures frame { ReadsOffice (state S.Store conn.old) (state S.Store conn.new) result }
-    ensures value { let old = state S.Store conn.old in
-        let new = state S.Store conn.new in
-        OfOffice old new (IfOk result (λ found.
-        found.items ≡ filter (λ at. at.date == date.now) (touched_periods old.now.trees))) }
+    ensures value { FindsOffice S.Store conn.old conn.new result
+        (λ trees found.
+        found.items ≡ filter (λ at. at.date == date.now) (touched_periods trees)) }
 {
     let found = select_under::<Touched, SettlementDate, S>(conn, alloc, date)?;
     periods_of(alloc, found.as_slice())

@@ -1,10 +1,10 @@
 //! The contracts of a date, with the sellers and buyers of their references.
 
-ghost use Rattle.std.specs.Prelude.{◌≡◌, map, IfOk, OnOk};
+ghost use Rattle.std.specs.Prelude.{◌≡◌, map, IfOk};
 ghost use Rattle.sqlite.specs.Held.{state};
 ghost use Rattle.hh_kept_rows.specs.DayRows.{HasContractsOn};
 ghost use Rattle.hh_sqlrows.specs.Contents.{registered_of};
-ghost use Rattle.hh_sqlrows.specs.Reads.{OfOffice, OfSettled, ReadsSettled};
+ghost use Rattle.hh_sqlrows.specs.Reads.{FindsOffice, FindsSettled, ReadsSettled};
 ghost use Rattle.hh_sqlparts.specs.steps.DayParts.{contracts_on, references_in, with_day_contracts};
 
 use crate::tables::table_of;
@@ -27,10 +27,8 @@ pub fn select_contracts_of_day<S: Alter>(
     date: SettlementDate,
 ) -> Result<KeptRegister, RowFault>
     ensures frame { ReadsSettled (state S.Store conn.old) (state S.Store conn.new) result }
-    ensures value { let old = state S.Store conn.old in
-        let new = state S.Store conn.new in
-        OfSettled old new (IfOk result (λ part.
-        HasContractsOn date (registered_of old.now.trees) part)) }
+    ensures value { FindsSettled S.Store conn.old conn.new result
+        (λ trees. HasContractsOn date (registered_of trees)) }
 {
     let mut part = KeptRegister::new(alloc);
     select_contracts(conn, alloc, &mut part, date)?;
@@ -45,10 +43,8 @@ pub(crate) fn select_contracts<S: Alter>(
     date: SettlementDate,
 ) -> Result<(), RowFault>
     ensures frame { ReadsSettled (state S.Store conn.old) (state S.Store conn.new) result }
-    ensures value { let old = state S.Store conn.old in
-        let new = state S.Store conn.new in
-        OfSettled old new (OnOk result (part.new
-        ≡ with_day_contracts date (registered_of old.now.trees) part.old)) }
+    ensures value { FindsSettled S.Store conn.old conn.new result
+        (λ trees _. part.new ≡ with_day_contracts date (registered_of trees) part.old) }
 {
     part.contracts = volumes_on(conn, alloc, date)?;
     let named = references_in(alloc, part.contracts.rows())?;
@@ -63,10 +59,8 @@ fn volumes_on<S: Alter>(
     date: SettlementDate,
 ) -> Result<ListTable<ContractKey, Kwh>, RowFault>
     ensures frame { ReadsSettled (state S.Store conn.old) (state S.Store conn.new) result }
-    ensures value { let old = state S.Store conn.old in
-        let new = state S.Store conn.new in
-        OfOffice old new (IfOk result (λ table.
-        table ≡ contracts_on date (registered_of old.now.trees))) }
+    ensures value { FindsOffice S.Store conn.old conn.new result
+        (λ trees table. table ≡ contracts_on date (registered_of trees)) }
 {
     match select_under::<Contracts, SettlementDate, S>(conn, alloc, &date) {
         Ok(rows) => table_of(rows),

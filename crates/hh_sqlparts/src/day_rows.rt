@@ -1,12 +1,12 @@
 //! Everything from which a Settlement Day is settled.
 
-ghost use Rattle.std.specs.Prelude.{◌≡◌, IfOk, OnOk};
+ghost use Rattle.std.specs.Prelude.{◌≡◌, OnOk};
 ghost use Rattle.sqlite.specs.Held.{state};
 ghost use Rattle.hh_tables.specs.Tables.{IsTable};
 ghost use Rattle.hh_rows.specs.Keys.{reallocation_key_cmp};
 ghost use Rattle.hh_kept_rows.specs.DayRows.{HasRowsOn};
 ghost use Rattle.hh_sqlrows.specs.Contents.{registered_of};
-ghost use Rattle.hh_sqlrows.specs.Reads.{OfSettled, ReadsSettled};
+ghost use Rattle.hh_sqlrows.specs.Reads.{FindsSettled, ReadsSettled};
 ghost use Rattle.hh_sqlparts.specs.steps.DayParts.{with_registered, with_rows_of_units};
 
 use crate::day_contracts::select_contracts;
@@ -29,10 +29,8 @@ pub fn select_day<S: Alter>(
     date: SettlementDate,
 ) -> Result<KeptRegister, RowFault>
     ensures frame { ReadsSettled (state S.Store conn.old) (state S.Store conn.new) result }
-    ensures value { let old = state S.Store conn.old in
-        let new = state S.Store conn.new in
-        OfSettled old new (IfOk result (λ part.
-        HasRowsOn date (registered_of old.now.trees) part)) }
+    ensures value { FindsSettled S.Store conn.old conn.new result
+        (λ trees. HasRowsOn date (registered_of trees)) }
 {
     let mut part = KeptRegister::new(alloc);
     select_contracts(conn, alloc, &mut part, date)?;
@@ -49,10 +47,8 @@ fn select_registered<S: Alter>(
     date: SettlementDate,
 ) -> Result<(), RowFault>
     ensures frame { ReadsSettled (state S.Store conn.old) (state S.Store conn.new) result }
-    ensures value { let old = state S.Store conn.old in
-        let new = state S.Store conn.new in
-        OfSettled old new (OnOk result (part.new
-        ≡ with_registered date (registered_of old.now.trees) part.old)) }
+    ensures value { FindsSettled S.Store conn.old conn.new result
+        (λ trees _. part.new ≡ with_registered date (registered_of trees) part.old) }
 {
     part.parties = all_parties(conn, alloc)?;
     part.units = all_units(conn, alloc)?;
@@ -68,10 +64,8 @@ fn select_of_units<S: Alter>(
     date: SettlementDate,
 ) -> Result<(), RowFault>
     ensures frame { ReadsSettled (state S.Store conn.old) (state S.Store conn.new) result }
-    ensures value { let old = state S.Store conn.old in
-        let new = state S.Store conn.new in
-        OfSettled old new (OnOk result (part.new
-        ≡ with_rows_of_units date (registered_of old.now.trees) part.old)) }
+    ensures value { FindsSettled S.Store conn.old conn.new result
+        (λ trees _. part.new ≡ with_rows_of_units date (registered_of trees) part.old) }
     ensures rises { OnOk result (IsTable reallocation_key_cmp part.new.reallocations) }
 {
     let units = ids_on(alloc, part.units.rows(), date)?;

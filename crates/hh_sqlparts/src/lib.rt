@@ -4,10 +4,12 @@
 //! Rows are judged by the part that `select_named` gives as they are by all tables, and a
 //! Settlement Day settles by that of `select_day` as by all. `select_contracts_of_day` gives the
 //! contracts of a date alone, `select_day_beside` what is kept beside the rows of a date, and
-//! `select_positions_after` the positions that rows change. `select_beside_anew` gives what has to
-//! be kept beside tables that have nothing beside them so far. Each call only reads (`frame`).
+//! `select_before_load` the positions that rows change and the steps that they make in the
+//! registrations of units. `select_beside_anew` gives what has to be kept beside tables that have
+//! nothing beside them so far. Each call only reads (`frame`).
 #![tactic(auto)]
 
+mod before_load;
 mod beside_anew;
 mod changed_positions;
 mod day_beside;
@@ -20,8 +22,8 @@ mod named_names;
 mod named_tables;
 mod tables;
 
+pub use before_load::{BeforeLoad, select_before_load};
 pub use beside_anew::{BesideAnew, select_beside_anew};
-pub use changed_positions::select_positions_after;
 pub use day_beside::select_day_beside;
 pub use day_contracts::select_contracts_of_day;
 pub use day_rows::select_day;

@@ -7,7 +7,7 @@ ghost use Rattle.hh_rules.specs.Positions.{position_key, position_key_cmp};
 ghost use Rattle.sqlite.specs.Held.{state};
 ghost use Rattle.hh_sqlrows.specs.Forms.{rows_under_keys};
 ghost use Rattle.hh_sqlrows.specs.OfficeTables.{contracts, positions};
-ghost use Rattle.hh_sqlrows.specs.Reads.{OfSettled, ReadsSettled};
+ghost use Rattle.hh_sqlrows.specs.Reads.{FindsSettled, ReadsSettled};
 ghost use Rattle.hh_sqlparts.specs.steps.Moved.{buyer_of, seller_of, HasBoth, ServesPositions};
 ghost use Rattle.hh_sqlparts.specs.steps.Named.{volume_key_of, FindsNamed, IsAmong};
 
@@ -30,10 +30,9 @@ pub(crate) fn select_volumes_named<S: Alter>(
     rows: &[Row],
 ) -> Result<TreeTable<ContractKey, Kwh>, RowFault>
     ensures frame { ReadsSettled (state S.Store conn.old) (state S.Store conn.new) result }
-    ensures value { let old = state S.Store conn.old in
-        let new = state S.Store conn.new in
-        OfSettled old new (IfOk result (FindsNamed contract_key_cmp volume_key_of rows.now
-        (rows_under_keys contracts old.now.trees))) }
+    ensures value { FindsSettled S.Store conn.old conn.new result
+        (λ trees. FindsNamed contract_key_cmp volume_key_of rows.now
+        (rows_under_keys contracts trees)) }
 {
     let names = names_in(alloc, rows)?;
     let found = select_each::<Contracts, S>(conn, alloc, &names)?;
@@ -47,10 +46,8 @@ pub(crate) fn select_positions_named<S: Alter>(
     rows: &[Row],
 ) -> Result<Positions, RowFault>
     ensures frame { ReadsSettled (state S.Store conn.old) (state S.Store conn.new) result }
-    ensures value { let old = state S.Store conn.old in
-        let new = state S.Store conn.new in
-        OfSettled old new (IfOk result (ServesPositions rows.now
-        (rows_under_keys positions old.now.trees))) }
+    ensures value { FindsSettled S.Store conn.old conn.new result
+        (λ trees. ServesPositions rows.now (rows_under_keys positions trees)) }
 {
     let names = position_keys_in(alloc, rows)?;
     let found = select_each::<tables::Positions, S>(conn, alloc, &names)?;

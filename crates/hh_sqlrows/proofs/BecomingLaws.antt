@@ -13,6 +13,14 @@ or_never (inr none) = absurd none
 pub no_more : (old new : State) → (IsTrue old.is_open → Survives old new (λ _. ⊥)) → IsTrue old.is_open → LeavesNoMore old new
 no_more old new survives stands clean trees may = or_never ((survives stands).crash clean trees may)
 
+-- if a change may be made, so may any that follows from it
+pub may_become_so : (Change Other : Database → Database → Type 0) (old new : State) → ((a b : Database) → Change a b → Other a b) → MayBecome Change old new → MayBecome Other old new
+may_become_so Change Other old new follows may stands clean trees left = either (may stands clean trees left)
+  where
+    either : old.may_leave trees ⊎ MayStand (Change old.committed) trees → old.may_leave trees ⊎ MayStand (Other old.committed) trees
+    either (inl before) = inl before
+    either (inr (db, changed, is)) = inr (db, follows old.committed db changed, is)
+
 module _ (Change : Database → Database → Type 0) (old mid new : State) (first : IsTrue old.is_open → LeavesNoMore old mid)
     (same : IsTrue old.is_open → HasCleanDisk mid → IsTrue mid.is_open × (mid.committed ≡ old.committed)) (honest : HasCleanDisk new → HasCleanDisk mid) where
   -- the change may be made after a call that leaves no more

@@ -6,7 +6,7 @@ use Rattle.std.proofs.lemmas.Map.Lookups.{CmpEqualImpliesEq, exact_bytes, exact_
 use Rattle.sqlite_value.proofs.OrderLemmas.{value_cmp-Int, value_cmp-Text}
 use Rattle.hh_names.specs.Accounts.{account_cmp, bytes_cmp, side_cmp, side_number}
 use Rattle.hh_names.proofs.AccountLaws.{bytes_total}
-use Rattle.hh_rows.specs.Keys.{contract_key_cmp, reallocation_key_cmp, settlement_period_cmp, unit_period_cmp}
+use Rattle.hh_rows.specs.Keys.{contract_key_cmp, lead_key_cmp, reallocation_key_cmp, settlement_period_cmp, unit_period_cmp}
 use Rattle.hh_rows.specs.Kinds.{kind_word}
 use Rattle.hh_rows.specs.declared.keys.ReallocationKey.{ReallocationKey}
 use Rattle.hh_runs.specs.RunKinds.{run_kind_cmp, run_kind_number}
@@ -15,7 +15,7 @@ use Rattle.hh_keyed_rows.specs.Runs.{run_key_cmp}
 use Rattle.hh_keyed_rows.specs.States.{file_key_cmp}
 use Rattle.hh_keyed_rows.specs.Codecs.{Codec, IsCodec, both, nat_column, text_column, via}
 use Rattle.hh_keyed_rows.specs.Fields.{account_columns, date_column, file_kind_column, file_name_column, period_column, reference_column, run_kind_column, settlement_period_columns, side_column, party_column, unit_column}
-use Rattle.hh_keyed_rows.specs.Keys.{contract_key_columns, credit_key_columns, file_key_columns, one_row_column, position_key_columns, posting_key_columns, result_key_columns, run_key_columns, unit_period_columns}
+use Rattle.hh_keyed_rows.specs.Keys.{contract_key_columns, credit_key_columns, file_key_columns, lead_key_columns, one_row_column, position_key_columns, posting_key_columns, result_key_columns, run_key_columns, unit_period_columns}
 use Rattle.hh_keyed_rows.specs.Positions.{position_key_cmp}
 use Rattle.hh_keyed_rows.proofs.CodecLaws.{both_codec, via_codec}
 use Rattle.hh_keyed_rows.proofs.FieldLaws.{account_codec, date_codec, file_kind_codec, period_codec, settlement_period_codec, word_codec}
@@ -57,6 +57,9 @@ unit_period_ordered a b = both_ordered unit_column settlement_period_columns byt
 
 pub contract_key_ordered : IsOrdered contract_key_columns contract_key_cmp
 contract_key_ordered a b = both_ordered reference_column settlement_period_columns bytes_cmp settlement_period_cmp (word_codec _ _ _) text_ordered settlement_period_ordered (a.reference, a.at) (b.reference, b.at)
+
+pub lead_key_ordered : IsOrdered lead_key_columns lead_key_cmp
+lead_key_ordered a b = both_ordered unit_column date_column bytes_cmp nat_cmp (word_codec _ _ _) text_ordered nat_ordered (a.unit, a.from) (b.unit, b.from)
 
 -- the columns of the key of a reallocation, in the order by which keys compare: unit, date, period, party, side
 abbrev pub reallocation_order : Codec ReallocationKey

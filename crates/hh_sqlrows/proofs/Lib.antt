@@ -1,8 +1,8 @@
 pub mod BecomingLaws
-mod ColumnLaws
+pub mod ColumnLaws
 pub mod CommitLaws
 pub mod MakeLaws
-mod OrderFacts
+pub mod OrderFacts
 pub mod RisingLaws
 mod StatementFacts
 pub mod TextFacts

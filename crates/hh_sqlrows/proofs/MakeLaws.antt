@@ -24,7 +24,7 @@ made_one_more at facts old new (Ok count) is made =
     record { is_office = made.is_office; empty = subst (λ ts. AreEmpty ts new.trees) (sym facts.extends) (all_more (λ t. new.trees t.tree ≡ []) _ _ rest made.empty) }
 made_one_more at facts old new (Err e) is made = tt
 
-pub all_filled : (db : Database) → IsMadeUpTo 16 db → IsEmptyOffice db
+pub all_filled : (db : Database) → IsMadeUpTo 17 db → IsEmptyOffice db
 all_filled db is = record {
   is_office = subst (λ (s : Schema). IsOfficeOf s db) all_made is.is_office;
   empty = subst (λ (s : Schema). AreEmpty s.tables db.trees) all_made is.empty;

@@ -1,18 +1,20 @@
 -- What the texts of the statements on each table of an office do.
 use Rattle.std.proofs.Common.{[], ◌∙◌, ◌∷◌, ◌==◌, inl, inr, refl}
 use Rattle.std.specs.Prelude.{ℕ, List, map}
-use Rattle.std.specs.Cmp.{nat_cmp_total, unsigned_tied}
-use Rattle.std.specs.Ordering.{is_eq, nat_cmp}
+use Rattle.std.specs.Cmp.{eq_by_cmp_equiv, nat_cmp_total, unsigned_tied}
+use Rattle.std.specs.Ordering.{eq_by_cmp, is_eq, nat_cmp}
 use Rattle.std.proofs.lemmas.Map.Lookups.{exact_bytes, exact_unsigned}
 use Rattle.sqlite.specs.Listing.{understood}
 use Rattle.sqlite_tied.specs.Compute.{everything}
 use Rattle.hh_names.specs.Accounts.{bytes_cmp}
 use Rattle.hh_names.proofs.AccountLaws.{bytes_total}
 use Rattle.hh_keyed_rows.specs.Fields.{date_column, unit_column}
-use Rattle.hh_keyed_rows.specs.Keys.{run_key_columns}
+use Rattle.hh_rows.specs.Keys.{lead_key_cmp}
+use Rattle.hh_rows.proofs.KeyLaws.{exact_lead_keys, lead_key_total}
+use Rattle.hh_keyed_rows.specs.Keys.{lead_key_columns, run_key_columns}
 use Rattle.hh_keyed_rows.specs.Runs.{run_key_cmp}
 use Rattle.hh_keyed_rows.proofs.FieldLaws.{date_codec}
-use Rattle.hh_keyed_rows.proofs.KeyCodecs.{run_key_codec, unit_codec}
+use Rattle.hh_keyed_rows.proofs.KeyCodecs.{lead_key_codec, run_key_codec, unit_codec}
 use Rattle.hh_sqlrows.specs.facts.KeyOrders.{exact_run_keys, run_key_total}
 use Rattle.hh_sqltables.specs.Forms.{TableForm}
 use Rattle.hh_sqltables.specs.Texts.{IsChangeableIn, IsFinding, IsInsertOf, IsListing, IsPut, IsQuery, IsRemoval, columns_in}
@@ -20,13 +22,14 @@ use Rattle.hh_sqltables.proofs.FormLaws.{or_false}
 use Rattle.hh_sqltables.proofs.UpdateFormLaws.{and_true}
 use Rattle.hh_sqltables.proofs.WhereLaws.{tested_by}
 use Rattle.hh_sqlrows.specs.OfficeSchema.{office}
-use Rattle.hh_sqlrows.specs.OfficeTables.{contracts, credits, files, is_of_unit_on, marks, meters, parties, period_prices, positions, postings, reallocations, references, results, runs, settings, touched, units}
-use Rattle.hh_sqlrows.proofs.OrderFacts.{contracts_by, credits_by, files_by, marks_by, meters_by, parties_by, positions_by, postings_by, prices_by, reallocations_by, references_by, results_by, runs_by, settings_by, touched_by, units_by}
+use Rattle.hh_sqlrows.specs.OfficeTables.{contracts, credits, files, is_of_unit_on, leads, marks, meters, parties, period_prices, positions, postings, reallocations, references, results, runs, settings, touched, units}
+use Rattle.hh_sqlrows.proofs.OrderFacts.{contracts_by, credits_by, files_by, leads_by, marks_by, meters_by, parties_by, positions_by, postings_by, prices_by, reallocations_by, references_by, results_by, runs_by, settings_by, touched_by, units_by}
 use Rattle.hh_sqlrows.specs.UnitDates.{unit_date_columns}
 use Rattle.hh_sqlrows.proofs.ColumnLaws.{asked_unit_cmp, asked_unit_total, exact_asked_units, unit_date_codec}
 use Rattle.hh_sqlrows.specs.declared.tables.contracts.TheConstants as contracts_texts
 use Rattle.hh_sqlrows.specs.declared.tables.credits.TheConstants as credits_texts
 use Rattle.hh_sqlrows.specs.declared.tables.files.TheConstants as files_texts
+use Rattle.hh_sqlrows.specs.declared.tables.leads.TheConstants as leads_texts
 use Rattle.hh_sqlrows.specs.declared.tables.marks.TheConstants as marks_texts
 use Rattle.hh_sqlrows.specs.declared.tables.meters.TheConstants as meters_texts
 use Rattle.hh_sqlrows.specs.declared.tables.parties.TheConstants as parties_texts
@@ -119,6 +122,30 @@ units_all = record {
   order = 1 ∷ [];
   selects = record { names = columns_of units; command = refl; unlisted = refl; plain = (refl, refl) };
   by = units_by;
+}
+
+-- ---- leads
+
+pub leads_put : IsPut office leads leads_texts.PUT.now
+unfolding understood everything
+leads_put = inl (refl, (refl, refl))
+
+pub leads_all : IsListing office leads leads_texts.ALL.now
+unfolding understood everything
+leads_all = record {
+  order = 1 ∷ 2 ∷ [];
+  selects = record { names = columns_of leads; command = refl; unlisted = refl; plain = (refl, refl) };
+  by = leads_by;
+}
+
+pub leads_removal : IsRemoval office leads leads_texts.REMOVAL.now lead_key_columns (λ asked key. eq_by_cmp lead_key_cmp asked key)
+unfolding understood everything
+leads_removal = record {
+  places = 1 ∷ 2 ∷ [];
+  deletes = (refl, (refl, refl));
+  tested = λ asked id k v.
+      tested_by lead_key_cmp lead_key_total exact_lead_keys lead_key_columns lead_key_codec (1 ∷ 2 ∷ []) (id ∷ columns_in leads k v) k asked refl refl
+      ∙ (eq_by_cmp_equiv lead_key_total).symm k asked;
 }
 
 -- ---- meters

@@ -79,8 +79,12 @@ marks_is : Facts 15
 unfolding understood everything
 marks_is = record { command = refl; whole = refl; plain = (refl, refl); defined = refl; makes = refl; extends = refl; uncounted = refl }
 
+leads_is : Facts 16
+unfolding understood everything
+leads_is = record { command = refl; whole = refl; plain = (refl, refl); defined = refl; makes = refl; extends = refl; uncounted = refl }
+
 -- each statement makes its table after those before it
-pub defines : (at : ℕ) → at < 16 → Facts at
+pub defines : (at : ℕ) → at < 17 → Facts at
 defines zero h = settings_is
 defines (suc zero) h = parties_is
 defines (suc (suc zero)) h = units_is
@@ -97,9 +101,10 @@ defines (suc (suc (suc (suc (suc (suc (suc (suc (suc (suc (suc (suc zero))))))))
 defines (suc (suc (suc (suc (suc (suc (suc (suc (suc (suc (suc (suc (suc zero))))))))))))) h = positions_is
 defines (suc (suc (suc (suc (suc (suc (suc (suc (suc (suc (suc (suc (suc (suc zero)))))))))))))) h = touched_is
 defines (suc (suc (suc (suc (suc (suc (suc (suc (suc (suc (suc (suc (suc (suc (suc zero))))))))))))))) h = marks_is
-defines (suc (suc (suc (suc (suc (suc (suc (suc (suc (suc (suc (suc (suc (suc (suc (suc at)))))))))))))))) h = absurd (omega (arith, h))
+defines (suc (suc (suc (suc (suc (suc (suc (suc (suc (suc (suc (suc (suc (suc (suc (suc zero)))))))))))))))) h = leads_is
+defines (suc (suc (suc (suc (suc (suc (suc (suc (suc (suc (suc (suc (suc (suc (suc (suc (suc at))))))))))))))))) h = absurd (omega (arith, h))
 
 -- the tables that are made one after the other are those of an office
-pub all_made : schema_up_to 16 ≡ office
+pub all_made : schema_up_to 17 ≡ office
 unfolding everything
 all_made = refl

@@ -14,7 +14,7 @@ use Rattle.hh_keyed_rows.specs.declared.amounts.AccountAmounts.{AccountAmounts}
 use Rattle.hh_keyed_rows.specs.History.{Registered}
 use Rattle.hh_sqltables.specs.Forms.{rows_under_keys}
 pub use Rattle.hh_sqltables.specs.Reported.{period_row, posted_amount, result_of}
-use Rattle.hh_sqlrows.specs.OfficeTables.{contracts, credits, files, marks, meters, one_row_cmp, parties, period_prices, positions, postings, reallocations, references, results, runs, touched, units}
+use Rattle.hh_sqlrows.specs.OfficeTables.{contracts, credits, files, leads, marks, meters, one_row_cmp, parties, period_prices, positions, postings, reallocations, references, results, runs, touched, units}
 
 -- what the accounts have in the Settlement Periods of a run, by period, then by account
 abbrev pub rows_of_run : RunKey → Trees → List (ResultKey × AccountAmounts)
@@ -29,6 +29,7 @@ abbrev pub registered_of : Trees → Registered
 registered_of trees = record {
   parties = rows_under_keys parties trees;
   units = rows_under_keys units trees;
+  leads = rows_under_keys leads trees;
   meters = rows_under_keys meters trees;
   prices = rows_under_keys period_prices trees;
   references = rows_under_keys references trees;

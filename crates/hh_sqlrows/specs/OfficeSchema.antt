@@ -1,4 +1,4 @@
--- The schema of an office's database: sixteen tables, each with a unique index on its key.
+-- The schema of an office's database: seventeen tables, each with a unique index on its key. Version 1 had the first sixteen.
 use Rattle.std.specs.Prelude.{ℕ, ◌+◌, true, false, List, [], ◌∷◌, ◌++◌, map, None, codes}
 use Rattle.sqlite_value.specs.declared.value.Value.TheVariants.{Null}
 use Rattle.sqlite_value.specs.declared.keys.Collation.TheVariants.{Binary}
@@ -147,19 +147,39 @@ marks_table = keyed (codes "marks") 30
     (present (codes "id") Integer ∷ present (codes "positions") Integer ∷ [])
     (1 ∷ [])
 
+-- ---- who led a unit on a date, since version 2
+
+abbrev pub leads_table : Table
+leads_table = keyed (codes "leads") 32
+    (present (codes "unit") Text ∷ present (codes "day_from") Integer ∷ present (codes "party") Text ∷
+    present (codes "side") Integer ∷ present (codes "day_to") Integer ∷ [])
+    (1 ∷ 2 ∷ [])
+
 -- ---- the schema
 
--- the tables, in the order in which they are made
-abbrev pub office_tables : List Table
-office_tables =
+-- the tables of version 1, in the order in which they are made
+abbrev pub tables_of_one : List Table
+tables_of_one =
     settings_table ∷ parties_table ∷ units_table ∷ meters_table ∷ prices_table ∷ refs_table ∷ contracts_table ∷
     reallocations_table ∷ files_table ∷ runs_table ∷ results_table ∷ credits_table ∷ postings_table ∷
     positions_table ∷ touched_table ∷ marks_table ∷ []
+
+-- the tables of an office, in the order in which they are made
+abbrev pub office_tables : List Table
+office_tables = tables_of_one ++ leads_table ∷ []
 
 -- that of an empty database
 abbrev pub nothing : Schema
 nothing = record { tables = []; indexes = []; views = [] }
 
+-- that of a database with these tables and their key indexes
+abbrev pub schema_with : List Table → Schema
+schema_with tables = record { tables = tables; indexes = map key_index tables; views = [] }
+
+-- that of a database of version 1
+abbrev pub office_of_one : Schema
+office_of_one = schema_with tables_of_one
+
 -- that of an office's database
 abbrev pub office : Schema
-office = record { tables = office_tables; indexes = map key_index office_tables; views = [] }
+office = schema_with office_tables

@@ -8,18 +8,18 @@ ghost use Rattle.hh_sqlrows.specs.Reads.{Inside, WritesInside};
 ghost use Rattle.hh_sqlrows.specs.steps.MakingTexts.{texts};
 
 use crate::tables::{
-    contracts, credits, files, marks, meters, parties, positions, postings, prices, reallocations,
-    references, results, runs, settings, touched, units,
+    contracts, credits, files, leads, marks, meters, parties, positions, postings, prices,
+    reallocations, references, results, runs, settings, touched, units,
 };
 use hh_sqltables::create_table;
 use sqlite::{Alter, Error, Transaction};
 
 /// How many tables an office has.
-const TABLES: usize = 16;
+const TABLES: usize = 17;
 
 /// The statement that makes the table with this number.
 fn text_of(at: usize) -> &'static str
-    requires { at < 16 }
+    requires { at < 17 }
     ensures { result.now ≡ slice_index_or texts at [] }
 {
     match at {
@@ -38,13 +38,14 @@ fn text_of(at: usize) -> &'static str
         12 => postings::CREATION,
         13 => positions::CREATION,
         14 => touched::CREATION,
-        _ => marks::CREATION,
+        15 => marks::CREATION,
+        _ => leads::CREATION,
     }
 }
 
 /// Makes the table with this number, in a database that has the tables before it.
 fn make_table<S: Alter>(tx: &mut Transaction<'_, S>, at: usize) -> Result<usize, Error>
-    requires { at < 16 }
+    requires { at < 17 }
     ensures frame { WritesInside S.Store tx.old tx.new result }
     ensures makes { let old = state S.Store tx.old.conn.now in
         let new = state S.Store tx.new.conn.now in

@@ -1,10 +1,10 @@
 //! What accounts have in the Settlement Periods of runs, as it is written and given.
 
-ghost use Rattle.std.specs.Prelude.{◌≡◌, [], map, IfOk};
+ghost use Rattle.std.specs.Prelude.{◌≡◌, map, IfOk};
 ghost use Rattle.std.specs.List.Sorted.{IsNonDecreasingBy};
 ghost use Rattle.sqlite.specs.Held.{state};
 ghost use Rattle.hh_devices.specs.DeviceChanges.{change};
-ghost use Rattle.hh_sqltables.specs.Giving.{GivesEach};
+ghost use Rattle.hh_sqltables.specs.Giving.{GivesEach, GivesToNew};
 ghost use Rattle.hh_sqlrows.specs.Contents.{period_row, rows_of_run};
 ghost use Rattle.hh_sqlrows.specs.Forms.{PutsAll};
 ghost use Rattle.hh_sqlrows.specs.OfficeTables.{amount_entry, results};
@@ -62,11 +62,9 @@ pub fn give_results_of<S: Alter, T: RowTaker<ResultKey, AccountAmounts>, O: Sink
     ensures frame { ReadsOffice (state S.Store conn.old) (state S.Store conn.new) result }
     ensures gives { let old = state S.Store conn.old in
         let new = state S.Store conn.new in
-        (begun : O) (report : T.Report)
-        → T.has (change O.taken O.failures begun out.old) taker.old report []
-        → GivesEach (T.has (change O.taken O.failures begun out.new) taker.new report)
-        (T.stopped (change O.taken O.failures begun out.new) report) (OfOffice old new)
-        (rows_of_run run.now old.now.trees) result }
+        GivesToNew (change O.taken O.failures) T.has T.stopped out.old out.new taker.old taker.new
+        (λ has stopped. GivesEach has stopped (OfOffice old new)
+        (rows_of_run run.now old.now.trees) result) }
     ensures in_order { IsNonDecreasingBy (λ e. e.0)
         (map period_row (rows_of_run run.now (state S.Store conn.old).now.trees)) }
 {

@@ -3,6 +3,7 @@
 pub(crate) mod contracts;
 pub(crate) mod credits;
 pub(crate) mod files;
+pub(crate) mod leads;
 pub(crate) mod marks;
 pub(crate) mod meters;
 pub(crate) mod parties;
@@ -20,6 +21,7 @@ pub(crate) mod units;
 pub use contracts::Contracts;
 pub use credits::Credits;
 pub use files::Files;
+pub use leads::Leads;
 pub use marks::Marks;
 pub use meters::Meters;
 pub use parties::Parties;

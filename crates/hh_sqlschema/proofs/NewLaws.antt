@@ -14,7 +14,7 @@ use Rattle.hh_sqlrows.specs.steps.Forms.{Puts}
 use Rattle.hh_sqlrows.specs.Making.{IsMadeUpTo}
 use Rattle.hh_sqlrows.specs.Office.{AreEmpty, IsEmptyOffice}
 use Rattle.hh_sqlrows.specs.OfficeSchema.{nothing, office}
-use Rattle.hh_sqlrows.specs.OfficeTables.{contracts, credits, files, marks, meters, one_row_cmp, parties, period_prices, positions, postings, reallocations, references, results, runs, settings, touched, units}
+use Rattle.hh_sqlrows.specs.OfficeTables.{contracts, credits, files, leads, marks, meters, one_row_cmp, parties, period_prices, positions, postings, reallocations, references, results, runs, settings, touched, units}
 use Rattle.hh_sqlrows.specs.Beside.{agrees}
 use Rattle.hh_sqlrows.specs.Content.{Content, empty_content}
 use Rattle.hh_sqlrows.specs.Contents.{beside_in, content_of, is_in_step_in, mark_in, result_of}
@@ -55,6 +55,7 @@ module _ (kept : Settings) (first second last : Database) (empty : IsEmptyOffice
     registered = record {
       parties = no_rows parties last.trees (all_still.1.0 (λ e. omega (arith, e)) (λ e. omega (arith, e))) i;
       units = no_rows units last.trees (all_still.1.1.0 (λ e. omega (arith, e)) (λ e. omega (arith, e))) i;
+      leads = no_rows leads last.trees (all_still.1.1.1.1.1.1.1.1.1.1.1.1.1.1.1.1.0 (λ e. omega (arith, e)) (λ e. omega (arith, e))) i;
       references = no_rows references last.trees (all_still.1.1.1.1.1.0 (λ e. omega (arith, e)) (λ e. omega (arith, e))) i;
       meters = no_rows meters last.trees (all_still.1.1.1.0 (λ e. omega (arith, e)) (λ e. omega (arith, e))) i;
       prices = no_rows period_prices last.trees (all_still.1.1.1.1.0 (λ e. omega (arith, e)) (λ e. omega (arith, e))) i;
@@ -87,6 +88,7 @@ module _ (kept : Settings) (first second last : Database) (empty : IsEmptyOffice
       of_version = (omega arith, omega arith);
       is_office = marked.is_office;
       settings = settings_stand;
+      leads = sym (ap (λ (c : Content). c.registered.leads) nothing_held);
       prices = sym (ap (λ (c : Content). c.registered.prices) nothing_held);
       alike = record {
         parties = sym (ap (λ (c : Content). c.registered.parties) nothing_held);

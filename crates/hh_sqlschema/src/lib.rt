@@ -15,5 +15,5 @@ mod schema;
 mod settings;
 
 pub use making::make_office;
-pub use rising::Rising;
+pub use rising::{Rising, has_office_of_one};
 pub use settings::settings_of_office;

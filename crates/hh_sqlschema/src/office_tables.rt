@@ -1,7 +1,7 @@
 //! The tables of an office's schema, each distinguished from every other table.
 
 ghost use Rattle.std.specs.Prelude.{◌≡◌, ◌<◌, IsTrue, Some, slice_get};
-ghost use Rattle.hh_sqlrows.specs.OfficeSchema.{contracts_table, credits_table, files_table, marks_table, meters_table, office_tables, parties_table, positions_table, postings_table, prices_table, reallocations_table, refs_table, results_table, runs_table, settings_table, touched_table, units_table};
+ghost use Rattle.hh_sqlrows.specs.OfficeSchema.{contracts_table, credits_table, files_table, leads_table, marks_table, meters_table, office_tables, parties_table, positions_table, postings_table, prices_table, reallocations_table, refs_table, results_table, runs_table, settings_table, touched_table, units_table};
 
 use crate::schema::is_keyed;
 use sqlite_schema::schema::{Kind, Table};
@@ -233,9 +233,23 @@ fn is_marks(table: &Table) -> bool
     is_keyed(table, b"marks", 30, &columns, &[1])
 }
 
+fn is_leads(table: &Table) -> bool
+    ensures only { IsTrue result → table.now ≡ leads_table }
+    ensures known { table.now ≡ leads_table → IsTrue result }
+{
+    let columns = [
+        (b"unit".as_slice(), Kind::Text),
+        (b"day_from".as_slice(), Kind::Integer),
+        (b"party".as_slice(), Kind::Text),
+        (b"side".as_slice(), Kind::Integer),
+        (b"day_to".as_slice(), Kind::Integer),
+    ];
+    is_keyed(table, b"leads", 32, &columns, &[1, 2])
+}
+
 /// Whether a table is the office's table with this number.
 pub(crate) fn is_office_table(table: &Table, at: usize) -> bool
-    requires { at < 16 }
+    requires { at < 17 }
     ensures only { IsTrue result → slice_get office_tables at ≡ Some table.now }
     ensures known { slice_get office_tables at ≡ Some table.now → IsTrue result }
 {
@@ -255,6 +269,7 @@ pub(crate) fn is_office_table(table: &Table, at: usize) -> bool
         12 => is_postings(table),
         13 => is_positions(table),
         14 => is_touched(table),
-        _ => is_marks(table),
+        15 => is_marks(table),
+        _ => is_leads(table),
     }
 }

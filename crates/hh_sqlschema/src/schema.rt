@@ -1,7 +1,7 @@
 //! The schema of an office's database, distinguished from every other schema.
 
-ghost use Rattle.std.specs.Prelude.{◌≡◌, ◌≢◌, ◌++◌, [], ◌∷◌, ℕ, List, codes, false, map, IsTrue, MatchOption, None};
-ghost use Rattle.hh_sqlrows.specs.OfficeSchema.{key_index, keyed, nothing, office, office_tables, present};
+ghost use Rattle.std.specs.Prelude.{◌≡◌, ◌≢◌, ◌≤◌, ◌++◌, [], ◌∷◌, ℕ, List, codes, false, map, take, IsTrue, MatchOption, None};
+ghost use Rattle.hh_sqlrows.specs.OfficeSchema.{key_index, keyed, nothing, office, office_of_one, office_tables, present, schema_with};
 
 use crate::office_tables::is_office_table;
 use sqlite_items::Items;
@@ -11,7 +11,10 @@ use sqlite_value::keys::{Collation, Order};
 use sqlite_value::value::Value;
 
 /// How many tables an office has.
-const TABLES: usize = 16;
+const TABLES: usize = 17;
+
+/// How many of them version 1 had.
+const TABLES_OF_ONE: usize = 16;
 
 fn is_null(value: &Value) -> bool
     ensures only { IsTrue result → value.now ≡ Value.Null }
@@ -150,15 +153,16 @@ pub(crate) fn is_keyed(
     are_columns(table.columns.as_slice(), named)
 }
 
-/// Whether the tables are those of an office, in their order.
-fn are_tables(tables: &[Table]) -> bool
-    ensures only { IsTrue result → tables.now ≡ office_tables }
-    ensures known { tables.now ≡ office_tables → IsTrue result }
+/// Whether the tables are the first ones of an office, in their order.
+fn are_tables(tables: &[Table], count: usize) -> bool
+    requires { count ≤ 17 }
+    ensures only { IsTrue result → tables.now ≡ take count office_tables }
+    ensures known { tables.now ≡ take count office_tables → IsTrue result }
 {
-    if tables.len() != TABLES {
+    if tables.len() != count {
         return false;
     }
-    'tables: for at in 0..TABLES {
+    'tables: for at in 0..count {
         if !is_office_table(&tables[at], at) {
             return false;
         }
@@ -222,14 +226,31 @@ fn are_key_indexes(indexes: &[Index], tables: &[Table]) -> bool
     true
 }
 
+/// Whether a schema has the first tables of an office and their key indexes, and no others.
+fn has_first(schema: &Schema, count: usize) -> bool
+    requires { count ≤ 17 }
+    ensures only { IsTrue result → schema.now ≡ schema_with (take count office_tables) }
+    ensures known { schema.now ≡ schema_with (take count office_tables) → IsTrue result }
+{
+    are_tables(schema.tables.as_slice(), count)
+        && are_key_indexes(schema.indexes.as_slice(), schema.tables.as_slice())
+        && schema.views.is_empty()
+}
+
 /// Whether a schema is an office's.
 pub(crate) fn is_office(schema: &Schema) -> bool
     ensures only { IsTrue result → schema.now ≡ office }
     ensures known { schema.now ≡ office → IsTrue result }
 {
-    are_tables(schema.tables.as_slice())
-        && are_key_indexes(schema.indexes.as_slice(), schema.tables.as_slice())
-        && schema.views.is_empty()
+    has_first(schema, TABLES)
+}
+
+/// Whether a schema is that of version 1.
+pub(crate) fn is_office_of_one(schema: &Schema) -> bool
+    ensures only { IsTrue result → schema.now ≡ office_of_one }
+    ensures known { schema.now ≡ office_of_one → IsTrue result }
+{
+    has_first(schema, TABLES_OF_ONE)
 }
 
 /// Whether a schema is empty.

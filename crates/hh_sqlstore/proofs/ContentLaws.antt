@@ -24,9 +24,9 @@ unshut false false shut stands = absurd (let e : ◌≡◌ {A = Bool} false true
 pub clean_while_open : {S : Type 0} (g : Ghosts S) (h : Held S) → ((s : S) → (g.view s).is_clean ≡ false → (g.view s).is_open ≡ false) → IsTrue (state g h).is_open → HasCleanDisk (state g h)
 clean_while_open g h shut stands = unshut _ _ (shut h.store) stands
 
-same_registered : (a b : Registered) → a.parties ≡ b.parties → a.units ≡ b.units → a.references ≡ b.references → a.meters ≡ b.meters → a.prices ≡ b.prices → a.contracts ≡ b.contracts → a.reallocations ≡ b.reallocations → a ≡ b
-same_registered a b p u f m s c r =
-    let e : ◌≡◌ {A = Registered} (record { parties = a.parties; units = a.units; references = a.references; meters = a.meters; prices = a.prices; contracts = a.contracts; reallocations = a.reallocations }) b = rw (p, u, f, m, s, c, r) in e
+same_registered : (a b : Registered) → a.parties ≡ b.parties → a.units ≡ b.units → a.leads ≡ b.leads → a.references ≡ b.references → a.meters ≡ b.meters → a.prices ≡ b.prices → a.contracts ≡ b.contracts → a.reallocations ≡ b.reallocations → a ≡ b
+same_registered a b p u l f m s c r =
+    let e : ◌≡◌ {A = Registered} (record { parties = a.parties; units = a.units; leads = a.leads; references = a.references; meters = a.meters; prices = a.prices; contracts = a.contracts; reallocations = a.reallocations }) b = rw (p, u, l, f, m, s, c, r) in e
 
 same_content : (a b : Content) → a.settings ≡ b.settings → a.registered ≡ b.registered → a.files ≡ b.files → a.runs ≡ b.runs → a.results ≡ b.results → a.credits ≡ b.credits → a.postings ≡ b.postings → a.is_in_step ≡ b.is_in_step → a ≡ b
 same_content a b s g f r t c p i =
@@ -43,6 +43,7 @@ holds_content kept db is has = record {
   of_version = (omega arith, omega arith);
   is_office = is;
   settings = has;
+  leads = refl;
   prices = refl;
   alike = record { parties = refl; units = refl; references = refl; meters = refl; contracts = refl; reallocations = refl; files = refl; runs = refl; results = refl; credits = refl; postings = refl };
   in_step = sym (said_aside (content_of kept db.trees) (is_in_step_in (content_of kept db.trees) db.trees) db.trees);
@@ -53,7 +54,7 @@ module _ (content : Content) (db : Database) (holds : Holds version content db) 
   same_tables : record content { is_in_step = true } ≡ content_of content.settings db.trees
   same_tables =
       let alike = holds.alike in
-      let registered = same_registered content.registered (registered_of db.trees) alike.parties alike.units alike.references alike.meters holds.prices alike.contracts alike.reallocations in
+      let registered = same_registered content.registered (registered_of db.trees) alike.parties alike.units holds.leads alike.references alike.meters holds.prices alike.contracts alike.reallocations in
       same_content (record content { is_in_step = true }) (content_of content.settings db.trees) refl registered alike.files alike.runs alike.results alike.credits alike.postings refl
 
   same_step : content.is_in_step ≡ is_in_step_in (content_of content.settings db.trees) db.trees

@@ -10,15 +10,17 @@ ghost use Rattle.hh_sqlrows.specs.Leaving.{IsUndone, MayStand};
 ghost use Rattle.hh_sqlstore.specs.steps.Changed.{ChangesNothing, IsChangedBy, KeepsLoad, KeepsRun, MayChange};
 
 use hh_keyed_rows::RowFault;
+use hh_registrations::LeadStep;
 use hh_rows::SettlementPeriod;
 use hh_rules::{Position, PositionKey};
 use hh_sqlchanges::{periods_touched_by, write_load, write_run};
-use hh_sqlparts::select_positions_after;
+use hh_sqlparts::select_before_load;
 use hh_store::{LoadChange, RunChange};
 use sqlite::{Alter, Connection};
 use std::alloc::Global;
 
-/// Writes what an accepted file changes, whole or not at all. The positions that it changes are read first.
+/// Writes what an accepted file changes, whole or not at all. What its rows change besides them is read
+/// first.
 pub(crate) fn keep_load<S: Alter>(
     connection: &mut Connection<S>,
     alloc: Global,
@@ -41,16 +43,25 @@ pub(crate) fn keep_load<S: Alter>(
     ensures honest { IsHonest (state S.Store connection.old) (state S.Store connection.new) }
     ensures autocommit { connection.new.in_transaction ≡ false }
 {
-    let positions = select_positions_after(connection, alloc, change.rows())?;
+    let read = select_before_load(connection, alloc, change.rows())?;
     let touched = periods_touched_by(alloc, change.rows())?;
-    commit_load(connection, alloc, change, &positions, &touched)
+    commit_load(
+        connection,
+        alloc,
+        change,
+        &read.leads,
+        &read.positions,
+        &touched,
+    )
 }
 
-/// Writes an accepted file with these positions and touched Settlement Periods, whole or not at all.
+/// Writes an accepted file with these steps in the registrations of units, positions and touched Settlement
+/// Periods, whole or not at all.
 fn commit_load<S: Alter>(
     connection: &mut Connection<S>,
     alloc: Global,
     change: &LoadChange,
+    leads: &[LeadStep],
     positions: &[(PositionKey, Position)],
     touched: &[SettlementPeriod],
 ) -> Result<(), RowFault>
@@ -59,20 +70,20 @@ fn commit_load<S: Alter>(
         IsTrue old.is_open → old.now ≡ old.committed }
     ensures made { let old = state S.Store connection.old in
         let new = state S.Store connection.new in
-        HasCleanDisk new → OnOk result
-        (IsChangedBy (ChangesByLoad change.now positions.now touched.now) old new) }
+        HasCleanDisk new → OnOk result (IsChangedBy
+        (ChangesByLoad change.now leads.now positions.now touched.now) old new) }
     ensures undone { let old = state S.Store connection.old in
         let new = state S.Store connection.new in
         OnErr result (IsUndone old new) }
     ensures crash { let old = state S.Store connection.old in
         let new = state S.Store connection.new in
         IsOffice old.now → Survives old new (MayStand
-        (ChangesByLoad change.now positions.now touched.now old.now)) }
+        (ChangesByLoad change.now leads.now positions.now touched.now old.now)) }
     ensures honest { IsHonest (state S.Store connection.old) (state S.Store connection.new) }
     ensures autocommit { connection.new.in_transaction ≡ false }
 {
     let mut tx = connection.transaction();
-    write_load(&mut tx, alloc, change, positions, touched)?;
+    write_load(&mut tx, alloc, change, leads, positions, touched)?;
     match tx.commit() {
         Ok(()) => Ok(()),
         Err(error) => Err(RowFault::from(error)),

@@ -1,16 +1,18 @@
 //! The tables of an office, kept in a database.
 
-ghost use Rattle.std.specs.Prelude.{◌≡◌, ◌≢◌, Err, IfErr, IfOk, IsTrue, MatchResult};
+ghost use Rattle.std.specs.Prelude.{◌≡◌, ◌≢◌, Err, IfErr, IfOk, IsTrue, MatchResult, OnErr, OnOk};
 ghost use Rattle.sqlite.specs.Held.{state};
 ghost use Rattle.sqlite.specs.State.{HasCleanDisk};
 ghost use Rattle.hh_time.specs.Days.{Midnights};
 ghost use Rattle.hh_states.specs.Content.{Content, empty_content, tables_of};
 ghost use Rattle.hh_states.specs.States.{empty_state};
 ghost use Rattle.hh_keyed_rows.specs.Values.{version};
-ghost use Rattle.hh_sqlrows.specs.OfficeSchema.{nothing, office};
+ghost use Rattle.hh_sqlrows.specs.OfficeSchema.{nothing, office, office_of_one};
 ghost use Rattle.hh_store.specs.declared.store_fault.StoreFault.TheVariants.{Store};
 ghost use Rattle.hh_sqlrows.specs.Holds.{Holds, IsNewOffice};
 ghost use Rattle.hh_sqlrows.specs.Leaving.{KeepsHeld, LeavesDatabase};
+ghost use Rattle.hh_sqlrows.specs.Reads.{IsHonest};
+ghost use Rattle.hh_sqlmigration.specs.Versions.{IsMigrated, MayMigrate};
 ghost use Rattle.hh_sqlschema.specs.TakenOver.{MayKeepBeside, TakesOver};
 ghost use Rattle.hh_sqlschema.specs.Making.{MayMake};
 ghost use Rattle.hh_sqlstore.specs.Stores.{content_in};
@@ -18,6 +20,7 @@ ghost use Rattle.hh_sqlstore.specs.Stores.{content_in};
 use crate::adopting::take_over;
 use hh_num::Pence;
 use hh_rows::Settings;
+use hh_sqlmigration::migrate;
 use hh_sqlschema::{Rising, make_office};
 use hh_states::PostingKey;
 use hh_store::StoreFault;
@@ -123,6 +126,34 @@ impl<S: Alter> SqlTables<S> {
 }
 
 impl<S: Rising> SqlTables<S> {
+    /// Takes the database of an office of version 1 to the present version, in one transaction. Its content
+    /// stays as it is, and so does what is kept beside it. A database of the present version is left as it
+    /// is. The connection is returned.
+    ///
+    /// # Errors
+    ///
+    /// `Memory`: memory was refused. `Store`: a transaction is under way; or the database has tables other
+    /// than those of version 1 or of the present one; or its settings name another version, or are off their
+    /// grammar; or it refuses for another reason. The database is as it was.
+    pub fn migrate(
+        alloc: Global,
+        mut connection: Connection<S>,
+    ) -> (Result<(), StoreFault>, Connection<S>)
+        ensures migrated { HasCleanDisk (state S.Store result.1)
+            → OnOk result.0 (IsMigrated (state S.Store connection) (state S.Store result.1)) }
+        ensures undone { HasCleanDisk (state S.Store result.1)
+            → OnErr result.0 (LeavesDatabase (state S.Store connection) (state S.Store result.1)) }
+        ensures crash { MayMigrate (state S.Store connection) (state S.Store result.1) }
+        ensures honest { IsHonest (state S.Store connection) (state S.Store result.1) }
+        ensures foreign { let schema = (state S.Store connection).now.schema in
+            schema ≢ office_of_one → schema ≢ office → result.0 ≡ Err Store }
+    {
+        match migrate(&mut connection, alloc) {
+            Ok(()) => (Ok(()), connection),
+            Err(fault) => (Err(StoreFault::from(fault)), connection),
+        }
+    }
+
     /// The tables of the office in this database. Its content stays as it is. If no positions are kept in
     /// it, they are kept from now on: they are made from the contracts in force, and each Settlement Period
     /// of each run counts as touched. That is one transaction.

@@ -1,9 +1,9 @@
 -- What a call leaves, whatever it is for: of a connection that it reads, and of a transaction in which it writes.
-use Rattle.std.specs.Prelude.{◌≡◌, ⊤, false, Result, OnOk, IsTrue}
+use Rattle.std.specs.Prelude.{◌≡◌, ⊤, false, Result, IfOk, OnOk, IsTrue}
 use Rattle.sqlite_schema.specs.declared.schema.Schema.{Schema}
 use Rattle.sqlite.specs.declared.transaction.Transaction.{Transaction}
 use Rattle.sqlite.specs.Effect.{Database}
-use Rattle.sqlite.specs.Held.{state}
+use Rattle.sqlite.specs.Held.{Held, state}
 use Rattle.sqlite.specs.State.{HasCleanDisk, State, Survives}
 use Rattle.sqlite_trees.specs.declared.store.Store.{Ghosts}
 use Rattle.sqlite_trees.specs.Tree.{Trees}
@@ -60,6 +60,19 @@ IsSettledOf schema old = IsOfficeOf schema old.now × (old.now ≡ old.committed
 abbrev pub ReadsSettledOf : {X E : Type 0} → Schema → State → State → Result X E → Type 0
 ReadsSettledOf schema old new result = Reads (IsTrue old.is_open) (IsSettledOf schema old) old new result
 
+-- A call on a database with the tables of a schema: if it was answered, `Found` holds of the rows before it and of what it returned.
+abbrev pub FindsIn : {S X E : Type 0} → Schema → Ghosts S → Held S → Held S → Result X E → (Trees → X → Type 0) → Type 0
+FindsIn schema g old new result Found =
+    let before = state g old in
+    OfOfficeOf schema before (state g new) (IfOk result (Found before.now.trees))
+
+-- Calls on a database with the tables of a schema and with everything committed: if they were answered, `Found` holds of the rows before
+-- them and of what they returned.
+abbrev pub FindsSettledIn : {S X E : Type 0} → Schema → Ghosts S → Held S → Held S → Result X E → (Trees → X → Type 0) → Type 0
+FindsSettledIn schema g old new result Found =
+    let before = state g old in
+    OfSettledOf schema before (state g new) (IfOk result (Found before.now.trees))
+
 -- ---- a call that writes in a transaction
 
 -- `P` holds for a statement that began in a transaction, if the disk has returned what was written
@@ -91,3 +104,11 @@ MakesIn schema g old new result Made =
     let before = state g old.conn.now in
     let after = state g new.conn.now in
     Inside before after (IsOfficeOf schema before.now → OnOk result (Made before.now after.now))
+
+-- A call in a transaction on a database with the tables of a schema: if it was answered, `Made` holds of the database before it, of the
+-- database after it and of what it returned.
+abbrev pub MakesByAnswerIn : {S X E : Type 0} → Schema → Ghosts S → Transaction S → Transaction S → Result X E → (Database → Database → X → Type 0) → Type 0
+MakesByAnswerIn schema g old new result Made =
+    let before = state g old.conn.now in
+    let after = state g new.conn.now in
+    Inside before after (IsOfficeOf schema before.now → IfOk result (Made before.now after.now))

@@ -1,5 +1,6 @@
 -- Rows that a statement selects and that are given to a taker, one after the other.
 use Rattle.std.specs.Prelude.{◌≡◌, ◌⊎◌, List, [], ◌∷◌, ◌++◌, Result, Ok, Err}
+use Rattle.hh_devices.specs.DeviceChanges.{DeviceChange}
 use Rattle.hh_keyed_rows.specs.output_fault.OutputFault.{OutputFault}
 
 -- `Has` says what a taker is after it was given rows. `Stopped` says how it stopped for a fault after some rows, and what it wrote.
@@ -17,3 +18,10 @@ module _ {R : Type 0} (Has : List R → Type 0) (Stopped : OutputFault → List 
   -- it took rows, which surely are all; or it stopped for a fault after rows, which surely are the first of all
   abbrev pub GivesEach : {A : Type 0} → (Type 0 → Type 0) → List R → Result A OutputFault → Type 0
   GivesEach Surely all = GivesSo (λ taken. Surely (taken ≡ all)) (λ taken. Surely ((rest : List R) × (all ≡ taken ++ rest)))
+
+-- A taker that was given no row yet is given rows. `Gives` says which, by what then holds of the taker and by how it stopped. `has` and
+-- `stopped` say this of a change of the output, which `changed` tells of two outputs.
+abbrev pub GivesToNew : {O T P R : Type 0} → (O → O → DeviceChange) → (DeviceChange → T → P → List R → Type 0) → (DeviceChange → P → OutputFault → List R → Type 0)
+    → (old new : O) → (before after : T) → ((List R → Type 0) → (OutputFault → List R → Type 0) → Type 0) → Type 0
+GivesToNew {O = O} {P = P} changed has stopped old new before after Gives =
+    (begun : O) (report : P) → has (changed begun old) before report [] → Gives (has (changed begun new) after report) (stopped (changed begun new) report)

@@ -1,13 +1,13 @@
 //! Rows that a statement selects, and that are given to a taker one after the other.
 
-ghost use Rattle.std.specs.Prelude.{◌≡◌, false, ℕ, List, [], option_copied, option_map, Some, IfOk, ⊤};
+ghost use Rattle.std.specs.Prelude.{◌≡◌, false, ℕ, List, option_copied, option_map, Some, IfOk, ⊤};
 ghost use Rattle.sqlite_value.specs.Order.{Row as SqlRow};
 ghost use Rattle.sqlite.specs.Held.{Held, state};
 ghost use Rattle.sqlite.specs.State.{Survives};
 ghost use Rattle.sqlite.specs.Values.{bound};
 ghost use Rattle.hh_devices.specs.DeviceChanges.{change};
 ghost use Rattle.hh_keyed_rows.specs.KeyedRows.{entry_in};
-ghost use Rattle.hh_sqltables.specs.Giving.{GivesSo};
+ghost use Rattle.hh_sqltables.specs.Giving.{GivesSo, GivesToNew};
 ghost use Rattle.hh_sqltables.specs.steps.Answers.{IsPlainOf, IsRead};
 ghost use Rattle.hh_sqltables.specs.steps.Streams.{HasTaken, IsBegun, OfPlain, TakesNext};
 ghost use Rattle.hh_sqltables.specs.Frames.{Reads, StaysOpen, Stood};
@@ -75,14 +75,11 @@ pub(crate) fn give_entries<
         Reads ⊤ (IsPlainOf old text.now) old (state S.Store conn.new) result }
     ensures gives { let old = state S.Store conn.old in
         let new = state S.Store conn.new in
-        (begun : O) (report : T.Report)
-        → T.has (change O.taken O.failures begun out.old) taker.old report []
-        → GivesSo (T.has (change O.taken O.failures begun out.new) taker.new report)
-        (T.stopped (change O.taken O.failures begun out.new) report)
-        (λ taken. OfPlain old new text.now
+        GivesToNew (change O.taken O.failures) T.has T.stopped out.old out.new taker.old taker.new
+        (λ has stopped. GivesSo has stopped (λ taken. OfPlain old new text.now
         (IsRead K.codec V.codec text.now (bound params.now) old new taken))
         (λ taken. OfPlain old new text.now
-        (IsBegun K.codec V.codec text.now (bound params.now) old taken)) result }
+        (IsBegun K.codec V.codec text.now (bound params.now) old taken)) result) }
 {
     let mut rows = match conn.query(text, params) {
         Ok(rows) => rows,
@@ -118,14 +115,11 @@ pub(crate) fn give_by<
         Reads ⊤ (IsPlainOf old text.now) old (state S.Store conn.new) result }
     ensures gives { let old = state S.Store conn.old in
         let new = state S.Store conn.new in
-        (begun : O) (report : T.Report)
-        → T.has (change O.taken O.failures begun out.old) taker.old report []
-        → GivesSo (T.has (change O.taken O.failures begun out.new) taker.new report)
-        (T.stopped (change O.taken O.failures begun out.new) report)
-        (λ taken. OfPlain old new text.now
+        GivesToNew (change O.taken O.failures) T.has T.stopped out.old out.new taker.old taker.new
+        (λ has stopped. GivesSo has stopped (λ taken. OfPlain old new text.now
         (IsRead K.codec V.codec text.now (A.codec.write asked.now) old new taken))
         (λ taken. OfPlain old new text.now
-        (IsBegun K.codec V.codec text.now (A.codec.write asked.now) old taken)) result }
+        (IsBegun K.codec V.codec text.now (A.codec.write asked.now) old taken)) result) }
 {
     let mut params = Vec::new(alloc);
     asked.to_columns(&mut params)?;

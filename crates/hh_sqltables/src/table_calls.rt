@@ -1,12 +1,12 @@
 //! What is done with a table of an office, for any of them.
 
-ghost use Rattle.std.specs.Prelude.{◌≡◌, [], IfOk, filter};
+ghost use Rattle.std.specs.Prelude.{◌≡◌, IfOk, filter};
 ghost use Rattle.std.specs.FinMap.{find};
 ghost use Rattle.sqlite.specs.Held.{state};
 ghost use Rattle.hh_devices.specs.DeviceChanges.{change};
-ghost use Rattle.hh_sqltables.specs.Forms.{IsOfficeOf, PutsAllIn, PutsAllOrLeavesIn, PutsIn, RemovesIn, rows_under_keys};
-ghost use Rattle.hh_sqltables.specs.Frames.{Inside, MakesIn, OfOfficeOf, ReadsOfficeOf, WritesInside};
-ghost use Rattle.hh_sqltables.specs.Giving.{GivesEach};
+ghost use Rattle.hh_sqltables.specs.Forms.{PutsAllIn, PutsAllOrLeavesIn, PutsIn, RemovesIn, rows_under_keys};
+ghost use Rattle.hh_sqltables.specs.Frames.{MakesByAnswerIn, MakesIn, OfOfficeOf, ReadsOfficeOf, WritesInside};
+ghost use Rattle.hh_sqltables.specs.Giving.{GivesEach, GivesToNew};
 
 use crate::giving::{give_by, give_entries};
 use crate::one_table::{Found, Grouped, Listed, OfficeTable, Removed, Under};
@@ -57,10 +57,8 @@ pub fn insert_group<T: Grouped, S: Alter>(
     rows: &[(T::Key, T::Value)],
 ) -> Result<bool, RowFault>
     ensures frame { WritesInside S.Store tx.old tx.new result }
-    ensures puts { let old = state S.Store tx.old.conn.now in
-        let new = state S.Store tx.new.conn.now in
-        Inside old new (IsOfficeOf T.schema old.now
-        → IfOk result (PutsAllOrLeavesIn T.schema T.form rows.now old.now new.now)) }
+    ensures puts { MakesByAnswerIn T.schema S.Store tx.old tx.new result
+        (PutsAllOrLeavesIn T.schema T.form rows.now) }
 {
     if rows.len() == GROUP {
         try_entries(tx, alloc, T::group(), rows)
@@ -175,11 +173,9 @@ pub fn give_all<T: Listed, S: Alter, R: RowTaker<T::Key, T::Value>, O: Sink>(
         ReadsOfficeOf T.schema (state S.Store conn.old) new result }
     ensures gives { let old = state S.Store conn.old in
         let new = state S.Store conn.new in
-        (begun : O) (report : R.Report)
-        → R.has (change O.taken O.failures begun out.old) taker.old report []
-        → GivesEach (R.has (change O.taken O.failures begun out.new) taker.new report)
-        (R.stopped (change O.taken O.failures begun out.new) report) (OfOfficeOf T.schema old new)
-        (rows_under_keys T.form old.now.trees) result }
+        GivesToNew (change O.taken O.failures) R.has R.stopped out.old out.new taker.old taker.new
+        (λ has stopped. GivesEach has stopped (OfOfficeOf T.schema old new)
+        (rows_under_keys T.form old.now.trees) result) }
 {
     give_entries(conn, alloc, T::all(), &[], taker, out)
 }
@@ -196,11 +192,9 @@ pub fn give_under<T: Under<A>, A: Columned, S: Alter, R: RowTaker<T::Key, T::Val
         ReadsOfficeOf T.schema (state S.Store conn.old) new result }
     ensures gives { let old = state S.Store conn.old in
         let new = state S.Store conn.new in
-        (begun : O) (report : R.Report)
-        → R.has (change O.taken O.failures begun out.old) taker.old report []
-        → GivesEach (R.has (change O.taken O.failures begun out.new) taker.new report)
-        (R.stopped (change O.taken O.failures begun out.new) report) (OfOfficeOf T.schema old new)
-        (filter (λ e. T.is_under asked.now e.0) (rows_under_keys T.form old.now.trees)) result }
+        GivesToNew (change O.taken O.failures) R.has R.stopped out.old out.new taker.old taker.new
+        (λ has stopped. GivesEach has stopped (OfOfficeOf T.schema old new)
+        (filter (λ e. T.is_under asked.now e.0) (rows_under_keys T.form old.now.trees)) result) }
 {
     give_by(conn, alloc, T::under(), asked, taker, out)
 }

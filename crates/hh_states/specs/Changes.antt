@@ -8,7 +8,8 @@ use Rattle.hh_rules.specs.Accounts.{bytes_cmp}
 use Rattle.hh_rules.specs.rows.Row.{Row}
 use Rattle.hh_rules.specs.Effects.{with_row}
 use Rattle.hh_rules.specs.FileRows.{fixed_references, timely_rows}
-use Rattle.hh_rules.specs.History.{Registered}
+use Rattle.hh_rules.specs.History.{Registered, leads_with_row}
+use Rattle.hh_rules.specs.Registrations.{Leads}
 use Rattle.hh_calc.specs.declared.result.AccountRow.{AccountRow}
 use Rattle.hh_runs.specs.declared.summary.Summary.{Summary}
 use Rattle.hh_runs.specs.declared.run_key.RunKey.{RunKey}
@@ -36,18 +37,26 @@ pub record RunChangeView : Type 0 where
   pub credits : List (CreditKey × ℤ)
   pub postings : List (PostingKey × ℤ)
 
--- what is registered and in force after one more row that is not late; references are put apart
+-- what is registered and in force after one more row that is not late; references and registrations of units are put apart
 abbrev pub put_row : Row → Registered → Registered
-put_row r tables = record (with_row true r tables) { references = tables.references }
+put_row r tables = record (with_row true r tables) { references = tables.references; leads = tables.leads }
 
 -- what is registered and in force after more rows that are not late, one after another
 abbrev pub put_rows : List Row → Registered → Registered
 put_rows [] tables = tables
 put_rows (r ∷ rows) tables = put_rows rows (put_row r tables)
 
+-- the registrations of units after more rows, one after another
+abbrev pub leads_through : List Row → Leads → Leads
+leads_through [] leads = leads
+leads_through (r ∷ rows) leads = leads_through rows (leads_with_row r leads)
+
 -- what is registered and in force after a load that writes this
 abbrev pub registered_with : LoadChangeView → Registered → Registered
-registered_with w tables = record (put_rows w.rows tables) { references = put_all bytes_cmp w.references tables.references }
+registered_with w tables = record (put_rows w.rows tables) {
+  references = put_all bytes_cmp w.references tables.references;
+  leads = leads_through w.rows tables.leads;
+}
 
 -- the tables after a load that writes this
 abbrev pub effect_of_load : LoadChangeView → Content → Content

@@ -38,7 +38,7 @@ credit_key_cmp =
 abbrev pub posting_key_cmp : PostingKey → PostingKey → Ordering
 posting_key_cmp = then_cmp (on (λ k. k.run) run_key_cmp) (on (λ k. k.account) account_cmp)
 
--- The thirteen tables: the settings, the seven of what is registered and in force, the files, and four of the runs. A store also
+-- The fourteen tables: the settings, the eight of what is registered and in force, the files, and four of the runs. A store also
 -- keeps data so that a run settles again only what has changed; is_in_step says whether these data agree with the tables.
 pub record Content : Type 0 where
   pub settings : Settings

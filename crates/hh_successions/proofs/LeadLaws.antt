@@ -23,7 +23,7 @@ use Rattle.hh_rows.specs.declared.keys.LeadKey.{LeadKey}
 use Rattle.hh_rows.specs.declared.rows.LeadTerm.{LeadTerm}
 use Rattle.hh_rows.specs.declared.rows.UnitRegistration.{UnitRegistration}
 use Rattle.hh_rows.proofs.KeyLaws.{exact_lead_keys, lead_key_total}
-use Rattle.hh_registrations.specs.declared.unit_change.FormerLead.TheVariants as former
+use Rattle.hh_registrations.specs.declared.changes.FormerLead.TheVariants as former
 use Rattle.hh_registrations.specs.Registrations.{Lead, Leads, beside_former, former_lead, is_begun, is_of_unit, last_begun, last_registration, widened}
 use Rattle.hh_registrations.proofs.KeyLaws.{at, begins_before, dates_apart, units_apart}
 use Rattle.hh_registrations.proofs.UpToLaws.{one_unit}

@@ -28,7 +28,7 @@ type Lead = (&'static [u8], &'static [u8]);
 fn register(registrations: &mut Registrations, leads: &[Lead]) -> Option<()> {
     for (lead, from) in leads {
         let row = row_from(lead, from)?;
-        registrations.put(row).ok()?;
+        registrations.put(&row).ok()?;
     }
     Some(())
 }

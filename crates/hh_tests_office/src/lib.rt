@@ -7,6 +7,7 @@
 //! - Connections over devices in memory: which bytes are written if a read or a write fails.
 //!   Replies are written out here in the grammar of [formats](../../docs/formats.md).
 //! - Commands over files in memory.
+//! - Databases that are migrated, or refused, and a stop at each call of a disk during a migration.
 //!
 //! They are in one program, because a program of tests takes a minute before its first test is
 //! proved, and its compiler takes long. A crate of code has no tests, because a crate with tests is
@@ -18,10 +19,18 @@ mod conversations;
 #[cfg(test)]
 mod device_tests;
 #[cfg(test)]
+mod disks;
+#[cfg(test)]
 mod life_tests;
+#[cfg(test)]
+mod migration_tests;
 #[cfg(test)]
 mod report_tests;
 #[cfg(test)]
 mod requests;
 #[cfg(test)]
 mod row_tests;
+#[cfg(test)]
+mod stop_tests;
+#[cfg(test)]
+mod versions;

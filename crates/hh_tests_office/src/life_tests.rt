@@ -1,14 +1,13 @@
 //! Tests of what no clause says: with ample memory an office is made in files in memory, and commands over
 //! them are answered, however the process of each ends.
 
+use crate::disks::new_disks;
 use crate::requests::{LOADED_AT, PARTIES, load, settings};
 use hh_file_life::{Ending, FileCommand, LifeStop, make_office, run_all};
 use hh_names::Refusal;
 use hh_requests::Reply;
 use hh_rows::{FileKind, Settings};
 use hh_time::london;
-use sqlite::Files;
-use sqlite_disk::Memory;
 use std::alloc::Global;
 use std::test::Fail;
 
@@ -57,11 +56,7 @@ fn replies_to(
     settings: Settings,
     commands: &[FileCommand],
 ) -> Result<Vec<Reply>, LifeStop> {
-    let files = Files {
-        log: Memory::new(alloc),
-        db: Memory::new(alloc),
-    };
-    let files = make_office(alloc, files, settings, Ending::Crashed)?;
+    let files = make_office(alloc, new_disks(alloc), settings, Ending::Crashed)?;
     let (replies, _files) = run_all(alloc, files, &london(), commands)?;
     Ok(replies)
 }

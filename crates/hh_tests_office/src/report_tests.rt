@@ -3,12 +3,13 @@
 //! that fail are in `tests/`. And how many Settlement Periods of a day may have changed since its last run.
 
 use crate::requests::{OPERATOR, ask_all, run, settings};
+use crate::versions::opened;
 use hh_devices::MemorySink;
 use hh_office::{Office, ReportStop};
 use hh_plain_tables::PlainTables;
 use hh_requests::Report;
 use hh_rows::Settings;
-use hh_sqlstore::SqlTables;
+use hh_sqlstore::{Rising, SqlTables};
 use hh_store::Tables;
 use hh_time::{Day, london};
 use sqlite::Connection;
@@ -91,9 +92,12 @@ fn reports_over_tables_in_memory(rt: HostRuntime) -> Result<(), Fail> {
     Ok(())
 }
 
-/// What comes of an office in a new database in memory.
-fn in_a_database(alloc: Global, settings: Settings) -> Option<(bool, usize)> {
-    let connection = Connection::open_in_memory(alloc).ok()?;
+/// What comes of an office in a database without tables.
+fn in_a_database<S: Rising + Drop>(
+    alloc: Global,
+    connection: Connection<S>,
+    settings: Settings,
+) -> Option<(bool, usize)> {
     match SqlTables::create(alloc, connection, settings) {
         Ok(tables) => {
             let (came, tables) = reported(alloc, tables);
@@ -107,6 +111,7 @@ fn in_a_database(alloc: Global, settings: Settings) -> Option<(bool, usize)> {
 #[test]
 fn reports_over_tables_in_a_database(rt: HostRuntime) -> Result<(), Fail> {
     let settings = settings().ok_or("settings")?;
-    assert!(rt; in_a_database(rt.alloc(), settings) == Some((true, 0)));
+    let connection = opened(rt.alloc()).ok_or("database")?;
+    assert!(rt; in_a_database(rt.alloc(), connection, settings) == Some((true, 0)));
     Ok(())
 }

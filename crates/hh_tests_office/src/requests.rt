@@ -79,12 +79,22 @@ pub fn load(alloc: Global, kind: FileKind, text: String) -> Option<Request> {
 
 /// Asks an office to load all files and to make the run.
 pub fn ask_all<T: Tables>(alloc: Global, office: &mut Office<'_, T>) -> Option<()> {
-    for (kind, text) in FILES {
-        let request = load(alloc, kind, whole(alloc, kind, text).ok()?)?;
-        drop(office.handle(LOADED_AT, &request));
-    }
+    load_first(alloc, office, FILES.len())?;
     let request = asked(alloc, Action::Run(run()?)).ok()?;
     drop(office.handle(ORDERED_AT, &request));
+    Some(())
+}
+
+/// Asks an office to load the first files. The first two register the parties and their units.
+pub fn load_first<T: Tables>(
+    alloc: Global,
+    office: &mut Office<'_, T>,
+    count: usize,
+) -> Option<()> {
+    for (kind, text) in FILES.iter().take(count) {
+        let request = load(alloc, *kind, whole(alloc, *kind, text).ok()?)?;
+        drop(office.handle(LOADED_AT, &request));
+    }
     Some(())
 }
 

@@ -1,6 +1,7 @@
 //! Rows that no table of an office can hold, since its columns have types and are never NULL: values of
 //! other types, and rows with fewer or more columns. They are read as none.
 
+use crate::versions::opened;
 use hh_keyed_rows::{Columned, NoColumns, RowFault, read_entry};
 use hh_num::Kwh;
 use hh_rows::{ContractKey, SettlementPeriod};
@@ -86,7 +87,7 @@ fn see_rows<S: Alter>(conn: &mut Connection<S>, alloc: Global) -> bool {
 
 #[test]
 fn rows_off_their_form_are_refused(rt: HostRuntime) -> Result<(), Fail> {
-    let mut conn = Connection::open_in_memory(rt.alloc())?;
+    let mut conn = opened(rt.alloc()).ok_or("database")?;
     assert!(rt; see_rows(&mut conn, rt.alloc()));
     Ok(())
 }

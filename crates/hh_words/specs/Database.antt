@@ -9,7 +9,7 @@ use Rattle.hh_word_values.specs.Connections.{port_value}
 use Rattle.hh_word_values.specs.Reports.{form_value, run_key_value}
 use Rattle.hh_word_values.specs.Values.{path_name}
 use Rattle.hh_words.specs.Given.{count_given, given_key, given_moment, given_settings, required_value}
-use Rattle.hh_words.specs.Tasks.{ToInit, ToLoad, ToRun, ToServe, Task, ToReport}
+use Rattle.hh_words.specs.Tasks.{ToInit, ToLoad, ToMigrate, ToRun, ToServe, Task, ToReport}
 
 -- what `init` was given
 unfoldable pub given_init : List Row → Option Task
@@ -73,6 +73,7 @@ given_serve rows = whole_serve (given_moment rows) (required_value port_value (f
 abbrev pub given_task : Text → List Row → Option Task
 given_task name rows =
     if bytes_eq name (codes "init") then given_init rows
+    else if bytes_eq name (codes "migrate") then Some ToMigrate
     else if bytes_eq name (codes "load") then given_load rows
     else if bytes_eq name (codes "run") then given_run rows
     else if bytes_eq name (codes "report") then given_report rows

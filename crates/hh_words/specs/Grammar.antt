@@ -36,6 +36,10 @@ script_app = command (codes "script")
 abbrev pub init_app : App
 init_app = command (codes "init") (required_option (codes "db") ∷ required_option (codes "operator-key") ∷ option (codes "lead-minutes") ∷ [])
 
+-- `migrate --db PATH`
+abbrev pub migrate_app : App
+migrate_app = command (codes "migrate") (required_option (codes "db") ∷ [])
+
 -- `load --db PATH --key KEY [--at SECONDS] KIND FILE`
 abbrev pub load_app : App
 load_app = command (codes "load") (required_option (codes "db") ∷ required_option (codes "key") ∷ option (codes "at")
@@ -71,4 +75,4 @@ program subcommands = fold with_command settle_start subcommands
 
 -- the program
 unfoldable pub settle_app : App
-settle_app = program (period_app ∷ script_app ∷ init_app ∷ load_app ∷ run_app ∷ report_app ∷ serve_app ∷ [])
+settle_app = program (period_app ∷ script_app ∷ init_app ∷ migrate_app ∷ load_app ∷ run_app ∷ report_app ∷ serve_app ∷ [])

@@ -85,7 +85,7 @@ line_value words = faultless (fault_of settle_app words) (given_line (subcommand
 
 -- how the program is used, in short
 abbrev pub usage : Text
-usage = codes "usage: settle period METER CONTRACTS PRICE\n       settle script --operator-key KEY [--lead-minutes N] [--strict] FILE\n       settle script --db PATH [--strict] FILE\n       settle init --db PATH --operator-key KEY [--lead-minutes N]\n       settle load --db PATH --key KEY [--at SECONDS] KIND FILE\n       settle run --db PATH --key KEY [--at SECONDS] DATE KIND\n       settle report --db PATH --key KEY FORM [DATE KIND]\n       settle serve --db PATH --port N [--count N] [--at SECONDS]\n       settle --version\n       --key-file PATH and --operator-key-file PATH take the key from a file\n       with any command: [--explain]\n"
+usage = codes "usage: settle period METER CONTRACTS PRICE\n       settle script --operator-key KEY [--lead-minutes N] [--strict] FILE\n       settle script --db PATH [--strict] FILE\n       settle init --db PATH --operator-key KEY [--lead-minutes N]\n       settle migrate --db PATH\n       settle load --db PATH --key KEY [--at SECONDS] KIND FILE\n       settle run --db PATH --key KEY [--at SECONDS] DATE KIND\n       settle report --db PATH --key KEY FORM [DATE KIND]\n       settle serve --db PATH --port N [--count N] [--at SECONDS]\n       settle --version\n       --key-file PATH and --operator-key-file PATH take the key from a file\n       with any command: [--explain]\n"
 
 -- a text that ends with how the program is used
 abbrev pub EndsWithUsage : Text → Type 0
@@ -98,7 +98,7 @@ TellsUsage words Memory = Unit {0}
 
 -- what the program tells about its version
 abbrev pub version_text : Text
-version_text = codes "settle 1.0.0, tables of version 1\n"
+version_text = codes "settle 2.0.0, tables of version 2\n"
 
 -- words that ask for the version: only `--version` after the program's own name
 abbrev pub asks_version : List Text → Bool

@@ -34,6 +34,7 @@ pub record ReportTask : Type 0 where
 -- what is done on a database file, with its values
 pub data Task : Type 0 where
   ToInit : Settings → Task
+  ToMigrate : Task
   ToLoad : LoadTask → Task
   ToRun : RunTask → Task
   ToReport : ReportTask → Task
@@ -52,6 +53,7 @@ report_task r = record { key = r.key.now; report = r.report }
 -- the values of a task
 abbrev pub task_of : DatabaseTask → Task
 task_of (given.Init settings) = ToInit settings
+task_of given.Migrate = ToMigrate
 task_of (given.Load words) = ToLoad (load_task words)
 task_of (given.Run words) = ToRun (run_task words)
 task_of (given.Report words) = ToReport (report_task words)

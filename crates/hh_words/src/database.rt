@@ -26,6 +26,8 @@ pub struct DatabaseWords<'a> {
 pub enum DatabaseTask<'a> {
     /// Makes the file, with a new office in it.
     Init(Settings),
+    /// Takes an office of an earlier version to the present one.
+    Migrate,
     /// Loads a file of rows.
     Load(LoadWords<'a>),
     /// Makes a run.
@@ -87,6 +89,8 @@ pub(crate) fn database_task<'a>(name: &str, given: &ArgMatches<'a>) -> Option<Da
 {
     if name == "init" {
         init_of(given)
+    } else if name == "migrate" {
+        Some(DatabaseTask::Migrate)
     } else if name == "load" {
         load_of(given)
     } else if name == "run" {

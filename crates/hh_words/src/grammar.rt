@@ -160,6 +160,13 @@ More options:
       --explain                   Explains a refusal or a fault on one line more",
 };
 
+const MIGRATE: Subcommand<'static> = Subcommand {
+    name: "migrate",
+    about: "Takes the office of a database file from an earlier version to the present one",
+    words: &[DB],
+    options: OPTIONS,
+};
+
 const LOAD: Subcommand<'static> = Subcommand {
     name: "load",
     about: "Loads a file of rows into the office of a database file",
@@ -251,8 +258,8 @@ const SERVE: Subcommand<'static> = Subcommand {
 };
 
 /// The subcommands of the program.
-pub(crate) const SUBCOMMANDS: [Subcommand<'static>; 7] = [
-    PERIOD, SCRIPT, INIT, LOAD, RUN, REPORT, SERVE,
+pub(crate) const SUBCOMMANDS: [Subcommand<'static>; 8] = [
+    PERIOD, SCRIPT, INIT, MIGRATE, LOAD, RUN, REPORT, SERVE,
 ];
 
 /// What help tells about the options of the program.

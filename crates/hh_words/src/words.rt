@@ -19,6 +19,7 @@ pub const USAGE: &str = "usage: settle period METER CONTRACTS PRICE
        settle script --operator-key KEY [--lead-minutes N] [--strict] FILE
        settle script --db PATH [--strict] FILE
        settle init --db PATH --operator-key KEY [--lead-minutes N]
+       settle migrate --db PATH
        settle load --db PATH --key KEY [--at SECONDS] KIND FILE
        settle run --db PATH --key KEY [--at SECONDS] DATE KIND
        settle report --db PATH --key KEY FORM [DATE KIND]
@@ -28,7 +29,7 @@ pub const USAGE: &str = "usage: settle period METER CONTRACTS PRICE
        with any command: [--explain]\n";
 
 /// What the program tells about its version.
-pub const VERSION: &str = "settle 1.0.0, tables of version 1\n";
+pub const VERSION: &str = "settle 2.0.0, tables of version 2\n";
 
 /// What the program is to do.
 #[derive(Clone, Copy, Debug, PartialEq, Eq)]

@@ -61,11 +61,15 @@ pub record Grows (whole : Registered) (old new : RegisterView) : Type 0 where
 abbrev pub AgreesOnUnits : Registered → Registered → Type 0
 AgreesOnUnits whole part = (unit : List ℕ) → AgreesOnUnit whole part unit
 
--- the part has the same as the whole for what a row names and for the row in force of its key, without the reallocations
+-- the part has the same as the whole for what a row names and for the row in force of its key, without the registrations of units and the
+-- reallocations
 abbrev pub AgreesOnNames : Registered → Registered → Row → Type 0
 AgreesOnNames whole part (row.Party r) = AgreesOn whole part (row.Party r)
-AgreesOnNames whole part (row.Unit r) = AgreesOn whole part (row.Unit r)
-AgreesOnNames whole part (row.Meter r) = AgreesOn whole part (row.Meter r)
+AgreesOnNames whole part (row.Unit r) =
+    AgreesOnParty whole part r.registration.lead.party × AgreesOnUnit whole part r.unit
+AgreesOnNames whole part (row.Meter r) =
+    AgreesOnUnit whole part r.key.unit
+    × (find unit_period_cmp r.key part.meters ≡ find unit_period_cmp r.key whole.meters)
 AgreesOnNames whole part (row.Price r) = AgreesOn whole part (row.Price r)
 AgreesOnNames whole part (row.Contract r) = AgreesOn whole part (row.Contract r)
 AgreesOnNames whole part (row.Reallocation r) =

@@ -7,12 +7,13 @@ use Rattle.hh_rows.specs.declared.settlement_period.SettlementPeriod.{Settlement
 use Rattle.hh_rules.specs.Positions.{position_key_cmp}
 use Rattle.hh_rules.specs.declared.positions.Position.{Position}
 use Rattle.hh_rules.specs.declared.positions.PositionKey.{PositionKey}
-use Rattle.hh_states.specs.Changes.{RunChangeView}
+use Rattle.hh_registrations.specs.declared.lead_steps.LeadStep.{LeadStep}
+use Rattle.hh_states.specs.Changes.{LoadChangeView, RunChangeView}
 use Rattle.hh_states.specs.Content.{Content}
 use Rattle.hh_beside.specs.DayLaws.{HaveTheSame}
 use Rattle.hh_sqlrows.specs.Contents.{beside_in, content_of}
 use Rattle.hh_sqlrows.specs.no_columns.NoColumns.{NoColumns}
-use Rattle.hh_sqlchanges.specs.Writes.{StaysOffice, StoresRun}
+use Rattle.hh_sqlchanges.specs.Writes.{StaysOffice, StoresLoadBy, StoresRun}
 
 -- The database is still an office's with the same settings and mark. Its content is what `effect` makes of it, and nothing else changed.
 pub record Becomes (effect : Content → Content) (old new : Database) : Type 0 where
@@ -24,6 +25,11 @@ pub record Becomes (effect : Content → Content) (old new : Database) : Type 0 
 abbrev pub BecomesOrLeaves : (Content → Content) → Database → Database → Bool → Type 0
 BecomesOrLeaves effect old new true = Becomes effect old new
 BecomesOrLeaves effect old new false = new ≡ old
+
+-- The rows of a load and these steps in the registrations of units are written, and nothing else changed.
+pub record StoresLoadAlone (w : LoadChangeView) (steps : List LeadStep) (old new : Database) : Type 0 where
+  pub stores : StoresLoadBy w steps old new
+  pub beside : beside_in new.trees ≡ beside_in old.trees
 
 -- The rows of a run are written, and nothing else changed.
 pub record StoresRunAlone (w : RunChangeView) (old new : Database) : Type 0 where

@@ -20,16 +20,16 @@ use Rattle.sqlite.specs.Rows.{stamped}
 use Rattle.hh_keyed_rows.specs.Codecs.{IsCodec, places_from}
 use Rattle.hh_num.specs.Quantities.{amounts_of_cash, energies, prices as price_range, volumes}
 use Rattle.hh_names.proofs.AccountLaws.{bytes_total}
-use Rattle.hh_rows.proofs.KeyLaws.{contract_key_total, exact_contract_keys, exact_reallocation_keys, exact_settlement_periods, exact_unit_periods, reallocation_key_total, settlement_period_total, unit_period_total}
+use Rattle.hh_rows.proofs.KeyLaws.{contract_key_total, exact_contract_keys, exact_lead_keys, exact_reallocation_keys, exact_settlement_periods, exact_unit_periods, lead_key_total, reallocation_key_total, settlement_period_total, unit_period_total}
 use Rattle.hh_keyed_rows.proofs.FieldLaws.{counterparties_codec, mark_codec, settlement_period_codec}
-use Rattle.hh_keyed_rows.proofs.KeyCodecs.{amounts_codec, contract_key_codec, credit_key_codec, file_codec, file_key_codec, no_columns_codec, one_row_codec, party_codec, position_codec, position_key_codec, posting_key_codec, quantity_codec, reading_codec, reallocation_codec, reallocation_key_codec, reference_codec, registered_party_codec, registered_unit_codec, result_key_codec, run_key_codec, settings_codec, summary_codec, unit_codec, unit_period_codec}
+use Rattle.hh_keyed_rows.proofs.KeyCodecs.{amounts_codec, contract_key_codec, credit_key_codec, file_codec, file_key_codec, lead_key_codec, lead_term_codec, no_columns_codec, one_row_codec, party_codec, position_codec, position_key_codec, posting_key_codec, quantity_codec, reading_codec, reallocation_codec, reallocation_key_codec, reference_codec, registered_party_codec, registered_unit_codec, result_key_codec, run_key_codec, settings_codec, summary_codec, unit_codec, unit_period_codec}
 use Rattle.hh_keyed_rows.proofs.PutLaws.{cast_int}
 use Rattle.hh_sqltables.specs.Forms.{TableForm}
 use Rattle.hh_sqltables.specs.Terms.{row_terms}
 use Rattle.hh_sqltables.specs.Texts.{AreOfKinds, IsFormIn, IsTableOf, columns_in, width_of}
 use Rattle.hh_sqltables.proofs.FormLaws.{no_clash, or_false}
 use Rattle.hh_sqlrows.specs.OfficeSchema.{office}
-use Rattle.hh_sqlrows.specs.OfficeTables.{contracts, credits, files, marks, meters, parties, period_prices, positions, postings, reallocations, references, results, runs, settings, touched, units}
+use Rattle.hh_sqlrows.specs.OfficeTables.{contracts, credits, files, leads, marks, meters, parties, period_prices, positions, postings, reallocations, references, results, runs, settings, touched, units}
 use Rattle.hh_sqlrows.specs.facts.KeyOrders.{credit_key_total, exact_credit_keys, exact_file_keys, exact_one_rows, exact_position_keys, exact_posting_keys, exact_result_keys, exact_run_keys, file_key_total, one_row_total, position_key_total, posting_key_total, result_key_total, run_key_total}
 
 -- ---- what is the same for each table
@@ -95,6 +95,16 @@ units_form =
 
 pub units_is : IsTableOf office units units.key units.value
 units_is = record { is_form = units_form; keyed = refl; valued = refl }
+
+-- ---- leads
+
+pub leads_form : IsFormIn office leads
+leads_form =
+    form_by leads lead_key_total exact_lead_keys lead_key_codec lead_term_codec (inr (inr (inr (inr (inr (inr (inr (inr (inr (inr (inr (inr (inr (inr (inr (inr (inl refl))))))))))))))))) (λ k v. (refl, (cast_int _, (refl, (cast_int _, (cast_int _, refl))))))
+    refl (λ db. refl) refl refl refl (λ olds news. refl) (λ r new. or_false _) (λ db r h. no_clash _ h) refl refl (λ k v. refl)
+
+pub leads_is : IsTableOf office leads leads.key leads.value
+leads_is = record { is_form = leads_form; keyed = refl; valued = refl }
 
 -- ---- meters
 

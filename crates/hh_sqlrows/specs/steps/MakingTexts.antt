@@ -3,6 +3,7 @@ use Rattle.std.specs.Prelude.{ℕ, List, [], ◌∷◌}
 use Rattle.hh_sqlrows.specs.declared.tables.contracts.TheConstants as contracts
 use Rattle.hh_sqlrows.specs.declared.tables.credits.TheConstants as credits
 use Rattle.hh_sqlrows.specs.declared.tables.files.TheConstants as files
+use Rattle.hh_sqlrows.specs.declared.tables.leads.TheConstants as leads
 use Rattle.hh_sqlrows.specs.declared.tables.marks.TheConstants as marks
 use Rattle.hh_sqlrows.specs.declared.tables.meters.TheConstants as meters
 use Rattle.hh_sqlrows.specs.declared.tables.parties.TheConstants as parties
@@ -22,4 +23,4 @@ texts =
     settings.CREATION.now ∷ parties.CREATION.now ∷ units.CREATION.now ∷ meters.CREATION.now ∷
     prices.CREATION.now ∷ references.CREATION.now ∷ contracts.CREATION.now ∷ reallocations.CREATION.now ∷
     files.CREATION.now ∷ runs.CREATION.now ∷ results.CREATION.now ∷ credits.CREATION.now ∷
-    postings.CREATION.now ∷ positions.CREATION.now ∷ touched.CREATION.now ∷ marks.CREATION.now ∷ []
+    postings.CREATION.now ∷ positions.CREATION.now ∷ touched.CREATION.now ∷ marks.CREATION.now ∷ leads.CREATION.now ∷ []

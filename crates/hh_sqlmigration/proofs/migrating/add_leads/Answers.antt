@@ -3,9 +3,10 @@ use Rattle.std.proofs.lemmas.Result.{on_ok_weaker}
 use Rattle.sqlite.specs.Effect.{Database}
 use Rattle.sqlite.specs.Held.{state}
 use Rattle.hh_registrations.specs.Registrations.{one_lead_each}
-use Rattle.hh_sqlrows.specs.Office.{IsOffice}
+use Rattle.hh_sqltables.specs.Forms.{IsOfficeOf}
+use Rattle.hh_sqlrows.specs.OfficeSchema.{office_of_one}
 use Rattle.hh_sqlrows.proofs.BecomingLaws.{may_become_made}
-use Rattle.hh_sqlmigration.specs.Versions.{BecomesTwo}
+use Rattle.hh_sqlmigration.specs.steps.ToTwo.{BecomesTwo}
 use Rattle.hh_sqlmigration.specs.steps.Writes.{WritesTwo}
 use Rattle.hh_sqlmigration.proofs.StepLaws.{two_made}
 use Rattle.hh_sqlmigration.proofs.migrating.add_leads.Goals as goal
@@ -26,7 +27,7 @@ returns-clause-taken g c clean =
       is_open = changed.is_open;
       settled = changed.settled;
       step = two_made old.now new.now c.args.settings.now entries office (c.requires.settings stands) are
-          (subst (λ (db : Database). WritesTwo entries c.args.settings.now db new.now) left.0 (changed.changed (subst IsOffice (sym left.0) office)));
+          (subst (λ (db : Database). WritesTwo entries c.args.settings.now db new.now) left.0 (changed.changed (subst (IsOfficeOf office_of_one) (sym left.0) office)));
     }) (c.commit_two.ensures.made clean)
 
 pub returns-clause-crash : goal.returns-clause-crash
@@ -43,7 +44,7 @@ returns-clause-crash g c =
     (λ up.
     let stands = reading.stood up in
     let left = reading.left up (c.requires.office stands) (c.requires.settled stands) in
-    c.commit_two.ensures.crash (subst IsOffice (sym left.0) (c.requires.office stands)))
+    c.commit_two.ensures.crash (subst (IsOfficeOf office_of_one) (sym left.0) (c.requires.office stands)))
     (λ up db writes.
     let stands = reading.stood up in
     let office = c.requires.office stands in

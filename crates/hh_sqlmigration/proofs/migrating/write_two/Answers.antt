@@ -1,10 +1,7 @@
-use Rattle.std.proofs.Common.{OnOk, arith, subst}
+use Rattle.std.proofs.Common.{arith}
 use Rattle.std.proofs.lemmas.Result.{on_ok_weaker}
 use Rattle.sqlite.specs.Held.{state}
 use Rattle.sqlite.specs.State.{HasCleanDisk}
-use Rattle.hh_sqltables.specs.Forms.{PutsIn}
-use Rattle.hh_sqlrows.specs.Holds.{settings_of}
-use Rattle.hh_sqlmigration.specs.Leads.{with_leads}
 use Rattle.hh_sqlmigration.proofs.StatementFacts.{leads_made}
 use Rattle.hh_sqlmigration.proofs.StepLaws.{written}
 use Rattle.hh_sqlmigration.proofs.migrating.write_two.Goals as goal
@@ -21,5 +18,4 @@ returns-clause-writes g c clean inside is =
     let in_led = c.in_ok-replace_all.ensures.frame.inside clean_led in_made in
     let makes = c.in_ok-create_table.ensures.makes _ _ _ leads_made clean_made inside is in
     let leading = c.in_ok-replace_all.ensures.puts clean_led in_made makes.is_office in
-    on_ok_weaker c.replace.result (written c.args.leads.now c.args.settings.now _ old.now made.now led.now last.now makes leading)
-    (subst (λ kept. OnOk c.replace.result (PutsIn with_leads (settings_of 2) (record {}) kept led.now last.now)) c.new.ensures (c.replace.ensures.puts clean in_led leading.is_office))
+    on_ok_weaker c.replace.result (written c.args.leads.now c.args.settings.now _ old.now made.now led.now last.now makes leading) (c.replace.ensures.puts clean in_led leading.is_office)

@@ -21,5 +21,5 @@ tables-preserved g c =
 pub returns-clause-makes : goal.returns-clause-makes
 returns-clause-makes g c clean inside is =
     let last = (state g.S.Store c.tables.tx.conn.now).now in
-    let all : c.tables.at ≡ 16 = omega (arith, c.tables.auto.at-end, c.tables-test.false) in
+    let all : c.tables.at ≡ 17 = omega (arith, c.tables.auto.at-end, c.tables-test.false) in
     all_filled last (subst (λ (n : ℕ). IsMadeUpTo n last) all (c.tables.invariant.makes clean inside is))

@@ -5,17 +5,16 @@ use Rattle.sqlite.specs.Held.{state}
 use Rattle.hh_sqlrows.specs.Contents.{registered_of}
 use Rattle.hh_sqlrows.specs.Office.{IsOffice}
 use Rattle.hh_sqlchanges.specs.Writes.{ChangesByLoad}
-use Rattle.hh_sqlchanges.proofs.BesideLaws.{alike_after_load}
 use Rattle.hh_sqlstore.specs.steps.Changed.{KeepsLoad}
 use Rattle.hh_sqlparts.proofs.ReadingLaws.{only}
-use Rattle.hh_sqlstore.proofs.ChangeLaws.{may_change_after, nothing_after}
+use Rattle.hh_sqlstore.proofs.ChangeLaws.{load_kept, may_change_after, nothing_after}
 use Rattle.hh_sqlstore.proofs.changing.keep_load.Goals as goal
 
 pub returns-clause-made : goal.returns-clause-made
 returns-clause-made g c clean =
     let old = state g.S.Store c.args.connection.now in
     let new = state g.S.Store c.commit_load.new.connection in
-    let reading = (only _ _ _ c.in_ok-positions.ensures.frame) in
+    let reading = (only _ _ _ c.in_ok-read.ensures.frame) in
     let w = c.args.change.now in
     on_ok_weaker c.commit_load.result (λ changed.
     let was_settled = c.requires.settled (reading.stood changed.was_open) in
@@ -25,28 +24,27 @@ returns-clause-made g c clean =
       settled = changed.settled;
       changed = λ office.
           let kept = reading.left changed.was_open office was_settled in
-          let written = subst (λ (db : Database). ChangesByLoad w c.in_ok-positions.positions.items c.in_ok-touched.touched.items db new.now) kept.0
-          (rw c.deref-2.ensures.value at (rw c.deref.ensures.value at (changed.changed (subst IsOffice (sym kept.0) office)))) in
-          (written.stores, alike_after_load w (registered_of old.now.trees) _ _ old.now new.now written (rw c.rows.ensures at (c.in_ok-positions.ensures.value changed.was_open office was_settled)) (rw c.rows-2.ensures at c.in_ok-touched.ensures.same));
+          let written = subst (λ (db : Database). ChangesByLoad w c.in_ok-read.read.leads.items c.in_ok-read.read.positions.items c.in_ok-touched.touched.items db new.now) kept.0
+          (rw c.deref-3.ensures.value at (rw c.deref-2.ensures.value at (rw c.deref.ensures.value at (changed.changed (subst IsOffice (sym kept.0) office))))) in
+          load_kept w _ _ _ old.now new.now written (rw c.rows.ensures at (c.in_ok-read.ensures.leads changed.was_open office was_settled))
+          (rw c.rows.ensures at (c.in_ok-read.ensures.positions changed.was_open office was_settled)) (rw c.rows-2.ensures at c.in_ok-touched.ensures.same);
     }) (c.commit_load.ensures.made clean)
 
 pub returns-clause-undone : goal.returns-clause-undone
 returns-clause-undone g c =
     on_err_weaker c.commit_load.result
-    (nothing_after (state g.S.Store c.args.connection.now) (state g.S.Store c.select_positions_after.new.conn) (state g.S.Store c.commit_load.new.connection) (only _ _ _ c.in_ok-positions.ensures.frame))
+    (nothing_after (state g.S.Store c.args.connection.now) (state g.S.Store c.select_before_load.new.conn) (state g.S.Store c.commit_load.new.connection) (only _ _ _ c.in_ok-read.ensures.frame))
     c.commit_load.ensures.undone
 
 pub returns-clause-crash : goal.returns-clause-crash
 returns-clause-crash g c =
     let old = state g.S.Store c.args.connection.now in
-    let mid = state g.S.Store c.select_positions_after.new.conn in
+    let mid = state g.S.Store c.select_before_load.new.conn in
     let new = state g.S.Store c.commit_load.new.connection in
-    let read = c.in_ok-positions.ensures in
+    let read = c.in_ok-read.ensures in
     let w = c.args.change.now in
-    may_change_after (ChangesByLoad w c.in_ok-positions.positions.items c.in_ok-touched.touched.items) (KeepsLoad w) old mid new c.in_ok-positions.positions
+    may_change_after (ChangesByLoad w c.in_ok-read.read.leads.items c.in_ok-read.read.positions.items c.in_ok-touched.touched.items) (KeepsLoad w) old mid new c.in_ok-read.read
     read.frame c.commit_load.ensures.honest
-    (rw c.deref-2.ensures.value at (rw c.deref.ensures.value at c.commit_load.ensures.crash))
-    (λ still office settled db written. (
-      written.stores,
-      alike_after_load w (registered_of old.now.trees) _ _ old.now db written (rw c.rows.ensures at (read.value still office settled)) (rw c.rows-2.ensures at c.in_ok-touched.ensures.same),
-    ))
+    (rw c.deref-3.ensures.value at (rw c.deref-2.ensures.value at (rw c.deref.ensures.value at c.commit_load.ensures.crash)))
+    (λ still office settled db written.
+    load_kept w _ _ _ old.now db written (rw c.rows.ensures at (read.leads still office settled)) (rw c.rows.ensures at (read.positions still office settled)) (rw c.rows-2.ensures at c.in_ok-touched.ensures.same))
