@@ -4,3 +4,4 @@ pub mod LookBackLaws
 pub mod MarkLaws
 pub mod RowFacts
 pub mod SubsidiaryLaws
+pub mod SuccessionLaws

@@ -15,7 +15,7 @@ use Rattle.hh_rows.specs.declared.keys.ReallocationKey.{ReallocationKey}
 use Rattle.hh_rows.specs.declared.rows.Row.{Row}
 use Rattle.hh_rows.specs.declared.rows.Row.TheVariants as row
 use Rattle.hh_rows.specs.declared.rows.UnitRegistration.{UnitRegistration}
-use Rattle.hh_registrations.specs.Registrations.{RegistrationsView, no_registrations, registered_lead_on, with_unit_row}
+use Rattle.hh_registrations.specs.Registrations.{RegistrationsView, is_succession, last_registration, no_registrations, registered_lead_on, with_unit_row}
 use Rattle.hh_rules.specs.Entries.{unit_entry}
 use Rattle.hh_rules.specs.History.{History, Registered, entries_of, registered_in}
 use Rattle.hh_rules.specs.Lateness.{Timetable, Accepted, timing_of}
@@ -71,6 +71,13 @@ abbrev pub is_row_on : Row → List ℕ → ℕ → Bool
 is_row_on (row.Unit r) unit date = eq_by_cmp bytes_cmp unit r.unit && holds r.registration.range date
 is_row_on _ unit date = false
 
+-- the row is a succession of the unit, and its range holds the date
+abbrev pub is_succession_on : RegistrationsView → Row → List ℕ → ℕ → Bool
+is_succession_on registered (row.Unit r) unit date =
+    is_row_on (row.Unit r) unit date
+    && is_some_that (λ last. is_succession last r.registration) (last_registration registered.leads r.unit)
+is_succession_on registered _ unit date = false
+
 -- ---- what holds after each history of rows that a rule accepts
 
 module _ (rule : RowRule) (timetable : Timetable) where
@@ -99,6 +106,14 @@ module _ (rule : RowRule) (timetable : Timetable) where
   LeadsStay =
       (history : History) (a : Accepted) → IsAcceptedBy rule timetable history → refusal_by rule timetable history a ≡ None
       → (unit : List ℕ) (date : ℕ) → is_row_on a.row unit date ≡ false
+      → registered_lead_on (registrations_in (history ++ a ∷ [])) unit date ≡ registered_lead_on (registrations_in history) unit date
+
+  -- a unit that is led on a date has the same lead account there after a further row, unless the row is a succession that holds the date
+  abbrev pub SuccessionsAloneMoveLeads : Type 0
+  SuccessionsAloneMoveLeads =
+      (history : History) (a : Accepted) → IsAcceptedBy rule timetable history → refusal_by rule timetable history a ≡ None
+      → (unit : List ℕ) (date : ℕ) → is_succession_on (registrations_in history) a.row unit date ≡ false
+      → is_some (registered_lead_on (registrations_in history) unit date) ≡ true
       → registered_lead_on (registrations_in (history ++ a ∷ [])) unit date ≡ registered_lead_on (registrations_in history) unit date
 
   -- each reallocation in force is of a unit that another account leads on the date than the one that the reallocation is to

@@ -7,6 +7,7 @@ ghost use Rattle.hh_successions.specs.RegistrationHistory.{
   LedByAnother,
   MarksAlike,
   RegistersRowByRow,
+  SuccessionsAloneMoveLeads,
   UnitsLookBack,
 };
 ghost use Rattle.hh_successions.specs.SuccessionRefusals.{refusals_by_leads};
@@ -31,6 +32,12 @@ pub fn units_look_back()
 /// An accepted row changes who leads a unit on none but its own dates.
 pub fn leads_stay()
     ensures { (timetable : Timetable) → LeadsStay refusals_by_leads timetable }
+{}
+
+/// An accepted row changes who leads a unit on a date on which the unit was led only if the row is a
+/// succession of the unit and holds the date.
+pub fn successions_alone_move_leads()
+    ensures { (timetable : Timetable) → SuccessionsAloneMoveLeads refusals_by_leads timetable }
 {}
 
 /// For accepted rows, each row of a unit has the unit's mark.
