@@ -1,6 +1,6 @@
--- All rows of a unit have its mark.
+-- All rows of a unit have its mark, and no row changes the mark of a known unit.
 use Rattle.std.proofs.Common.{◌≡◌, ℕ, List, [], ◌∷◌, ◌++◌, Bool, true, false, refl, sym, ap, subst, ◌∙◌, Option, Some, None, cond}
-use Rattle.std.specs.Prelude.{option_to_list}
+use Rattle.std.specs.Prelude.{option_map, option_to_list}
 use Rattle.std.specs.Cmp.{Equal-is}
 use Rattle.std.specs.FinMap.{find}
 use Rattle.std.specs.FinMap.Entries.{find-put}
@@ -23,7 +23,7 @@ use Rattle.hh_rules.specs.History.{History, Registered, entries_of}
 use Rattle.hh_rules.specs.Lateness.{Timetable, Accepted, timing_of}
 use Rattle.hh_rules.specs.Refusals.{is_same_mark}
 use Rattle.hh_rules.proofs.HistoryLaws.{entries_of-append}
-use Rattle.hh_successions.specs.RegistrationHistory.{IsAcceptedBy, MarksAlike, no_rows, one_more, refusal_by, registered_with_units, registrations_in, registrations_with}
+use Rattle.hh_successions.specs.RegistrationHistory.{IsAcceptedBy, MarksAlike, MarksStay, no_rows, one_more, refusal_by, registered_with_units, registrations_in, registrations_with}
 use Rattle.hh_successions.specs.SuccessionRefusals.{is_unit_moved_by_leads, last_lead, refusals_by_leads, unit_refusals_by_leads}
 use Rattle.hh_successions.proofs.LeadLaws.{UnitRows}
 use Rattle.hh_successions.proofs.LookBackLaws.{NoneMet, none_met, not_passed, row_by_row}
@@ -83,6 +83,23 @@ module _ (tables : Registered) (registered : RegistrationsView) (same : tables.u
         | false ↦ λ apart is. subst (HaveMark (rows ++ (r.unit, new) ∷ []) unit) (sym is) (other_marks unit apart (find bytes_cmp unit registered.units) (was unit))
       ] refl (find-put bytes_cmp bytes_total unit r.unit (widened known new) registered.units)
 
+  -- the row leaves the mark of each known unit
+  pub row_leaves_mark : (unit : List ℕ) (u : UnitRegistration) → find bytes_cmp unit registered.units ≡ Some u
+      → option_map (λ x. x.interconnector) (find bytes_cmp unit (with_unit_row r registered).units) ≡ Some u.interconnector
+  row_leaves_mark unit u is =
+      ap (option_map (λ x. x.interconnector)) (find-put bytes_cmp bytes_total unit r.unit (widened known new) registered.units)
+      ∙ elim (eq_by_cmp bytes_cmp unit r.unit) as (λ b. eq_by_cmp bytes_cmp unit r.unit ≡ b
+      → option_map (λ x. x.interconnector) (cond b (Some (widened known new)) (find bytes_cmp unit registered.units)) ≡ Some u.interconnector) [
+        | true ↦ λ tied.
+            let of_unit : unit ≡ r.unit = exact_bytes unit r.unit ((Equal-is (bytes_cmp unit r.unit)).0 tied) in
+            ap Some (mark_of_row known ∙ mark_kept u (ap (λ q. find bytes_cmp q registered.units) (sym of_unit) ∙ is))
+        | false ↦ λ apart. ap (option_map (λ x. x.interconnector)) is
+      ] refl
+    where
+      mark_of_row : (o : Option UnitRegistration) → (widened o new).interconnector ≡ new.interconnector
+      mark_of_row None = refl
+      mark_of_row (Some x) = refl
+
 abbrev HaveMarksIn : History → Type 0
 HaveMarksIn history = HaveMarks (entries_of unit_entry history) (registrations_in history).units
 
@@ -105,3 +122,13 @@ have_marks timetable _ (one_more history a before accepted) =
 -- the mark of a unit is that of each of its rows
 pub marks_alike : (timetable : Timetable) → MarksAlike refusals_by_leads timetable
 marks_alike timetable history accepted unit u is = subst (HaveMark (entries_of unit_entry history) unit) is (have_marks timetable history accepted unit)
+
+-- no row changes the mark of a known unit
+pub marks_stay : (timetable : Timetable) → MarksStay refusals_by_leads timetable
+marks_stay timetable history a before accepted unit known is =
+    ap (λ (registered : RegistrationsView). option_map (λ u. u.interconnector) (find bytes_cmp unit registered.units)) (row_by_row history a)
+    ∙ elim a.row as (λ x. first_met (refusals_by_leads (registered_with_units timetable history) (registrations_in history).leads (timing_of timetable a) x) ≡ None
+    → option_map (λ u. u.interconnector) (find bytes_cmp unit (registrations_with x (registrations_in history)).units) ≡ Some known.interconnector) [
+      | row.Unit r ↦ λ e. row_leaves_mark (registered_with_units timetable history) (registrations_in history) refl (entries_of unit_entry history) (have_marks timetable history before) r e unit known is
+      | _ ↦ λ e. ap (option_map (λ u. u.interconnector)) is
+    ] accepted

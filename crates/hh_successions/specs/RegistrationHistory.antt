@@ -101,6 +101,14 @@ module _ (rule : RowRule) (timetable : Timetable) where
       → find bytes_cmp unit (registrations_in history).units ≡ Some known
       → AllByRecursion (λ e. eq_by_cmp bytes_cmp unit e.0 ≡ true → e.1.interconnector ≡ known.interconnector) (entries_of unit_entry history)
 
+  -- a known unit keeps its mark
+  abbrev pub MarksStay : Type 0
+  MarksStay =
+      (history : History) (a : Accepted) → IsAcceptedBy rule timetable history → refusal_by rule timetable history a ≡ None
+      → (unit : List ℕ) (known : UnitRegistration) → find bytes_cmp unit (registrations_in history).units ≡ Some known
+      → option_map (λ u. u.interconnector) (find bytes_cmp unit (registrations_in (history ++ a ∷ [])).units)
+      ≡ Some known.interconnector
+
   -- a further row changes who leads a unit on none but its own dates
   abbrev pub LeadsStay : Type 0
   LeadsStay =

@@ -6,6 +6,7 @@ ghost use Rattle.hh_successions.specs.RegistrationHistory.{
   LeadsStay,
   LedByAnother,
   MarksAlike,
+  MarksStay,
   RegistersRowByRow,
   SuccessionsAloneMoveLeads,
   UnitsLookBack,
@@ -43,6 +44,11 @@ pub fn successions_alone_move_leads()
 /// For accepted rows, each row of a unit has the unit's mark.
 pub fn marks_alike()
     ensures { (timetable : Timetable) → MarksAlike refusals_by_leads timetable }
+{}
+
+/// An accepted row leaves the mark of each known unit as it is.
+pub fn marks_stay()
+    ensures { (timetable : Timetable) → MarksStay refusals_by_leads timetable }
 {}
 
 /// For accepted rows, each reallocation in force is of a unit that an account leads on the date, and that
