@@ -1,5 +1,5 @@
 //! Settles a period of the market's size again and again, with only std: the period and the checksum of
-//! crates/hh_trials. It checks nothing and refuses nothing.
+//! crates/hh_bench. It checks nothing and refuses nothing.
 //! Build: rustc -O peer_calc.rs. Usage: peer_calc COUNT
 use std::collections::HashMap;
 use std::time::Instant;

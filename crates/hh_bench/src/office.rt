@@ -2,7 +2,7 @@
 
 use crate::measures::Watch;
 use crate::stop::TrialStop;
-use hh_devices::{Sink, StreamSink};
+use hh_devices::StreamSink;
 use hh_host::{Host, RuntimeHost};
 use hh_inputs::InputFault;
 use hh_names::Refusal;
@@ -11,7 +11,6 @@ use hh_rows::Settings;
 use hh_script::{ScriptFault, ScriptLine, read_script};
 use hh_session::{MOST_SCRIPT_BYTES, NoNotes, run_lines};
 use hh_sqlstore::{Rising, SqlTables};
-use hh_store::StoreFault;
 use hh_time::london;
 use sqlite::{Connection, FileStore, Options};
 use sqlite_disk::{Disk, Files};
@@ -44,8 +43,7 @@ pub(crate) fn run_office(
     is_small: bool,
     made: Option<Settings>,
 ) -> Result<(), TrialStop> {
-    let host = RuntimeHost(rt);
-    let script = script_of(rt, &host, script)?;
+    let script = script_of(rt, &RuntimeHost(rt), script)?;
     let lines = match read_script(rt.alloc(), &script) {
         Ok(lines) => lines,
         Err(ScriptFault::BadLine { .. }) => return Err(TrialStop::Words),
@@ -54,18 +52,50 @@ pub(crate) fn run_office(
     let options = options_of(is_small, RandomState::new(rt)?.hash_one(&0u8));
     let watch = Watch::start(rt)?;
     let connection = open(rt.alloc(), files_at(rt, database)?, options)?;
-    let opened = watch.stop(rt);
-    let watch = Watch::start(rt);
-    let mut out = StreamSink::new(rt.stdout());
-    let (ran, connection) = match tables_in(rt.alloc(), connection, made) {
-        Ok(tables) => run_in(rt.alloc(), tables, is_small, &host, &lines, &mut out),
-        Err((fault, connection)) => (Err(TrialStop::from(fault)), connection),
-    };
-    let closed = connection.close();
+    let (opened, watch) = (watch.stop(rt), Watch::start(rt));
+    let closed = run_over(rt, connection, made, is_small, &lines);
     opened?;
     watch?.stop(rt)?;
+    closed
+}
+
+/// Runs the lines over the office in a database, which is made if settings are given. Closes the database.
+fn run_over<D: Disk + Drop>(
+    rt: &HostRuntime,
+    connection: Connection<FileStore<D>>,
+    made: Option<Settings>,
+    strict: bool,
+    lines: &[ScriptLine<'_>],
+) -> Result<(), TrialStop> {
+    let (ran, connection) = run_in(rt, connection, made, strict, lines);
+    let closed = connection.close();
     ran?;
     Ok(closed?)
+}
+
+/// Runs them, and returns the connection.
+fn run_in<S: Rising>(
+    rt: &HostRuntime,
+    connection: Connection<S>,
+    made: Option<Settings>,
+    strict: bool,
+    lines: &[ScriptLine<'_>],
+) -> (Result<(), TrialStop>, Connection<S>) {
+    let tables = match made {
+        Some(settings) => SqlTables::create(rt.alloc(), connection, settings),
+        None => SqlTables::adopt(rt.alloc(), connection),
+    };
+    let tables = match tables {
+        Ok(tables) => tables,
+        Err((fault, connection)) => return (Err(TrialStop::from(fault)), connection),
+    };
+    let (alloc, host) = (rt.alloc(), RuntimeHost(rt));
+    let mut office = Office::new(alloc, tables, london());
+    let mut out = StreamSink::new(rt.stdout());
+    let notes = &mut NoNotes;
+    let ran = run_lines(alloc, &mut office, &host, lines, strict, notes, &mut out);
+    let ran = ran.ok().ok_or(TrialStop::Output);
+    (ran, office.into_tables().into_connection())
 }
 
 /// The bytes of a script. A script with too many bytes is refused.
@@ -99,31 +129,4 @@ pub(crate) fn open<D: Disk + Drop>(
         Ok(connection) => Ok(connection),
         Err((error, _)) => Err(TrialStop::from(error)),
     }
-}
-
-/// The tables of the office in a database, which is made if settings are given.
-fn tables_in<S: Rising>(
-    alloc: Global,
-    connection: Connection<S>,
-    made: Option<Settings>,
-) -> Result<SqlTables<S>, (StoreFault, Connection<S>)> {
-    match made {
-        Some(settings) => SqlTables::create(alloc, connection, settings),
-        None => SqlTables::adopt(alloc, connection),
-    }
-}
-
-/// Runs the lines over the office in these tables.
-fn run_in<S: Rising, H: Host, O: Sink>(
-    alloc: Global,
-    tables: SqlTables<S>,
-    strict: bool,
-    host: &H,
-    lines: &[ScriptLine<'_>],
-    out: &mut O,
-) -> (Result<(), TrialStop>, Connection<S>) {
-    let mut office = Office::new(alloc, tables, london());
-    let ran = run_lines(alloc, &mut office, host, lines, strict, &mut NoNotes, out);
-    let ran = ran.ok().ok_or(TrialStop::Output);
-    (ran, office.into_tables().into_connection())
 }

@@ -14,7 +14,7 @@ const USAGE: &str =
 
 /// Why the program ends before it is done.
 #[derive(Clone, Copy, Debug)]
-pub enum TrialStop {
+pub(crate) enum TrialStop {
     /// The words form no command.
     Words,
     /// A file, a period, a database or memory was refused.
@@ -35,7 +35,7 @@ pub enum TrialStop {
 
 /// What was not as it should be: what came of a call, or which tables are left.
 #[derive(Clone, Copy, Debug)]
-pub enum Wrong {
+pub(crate) enum Wrong {
     MemoryRefusedToTheTwin,
     MemoryRefusedWithoutEnd,
     OtherwiseWithAmpleMemory,
@@ -100,7 +100,7 @@ impl From<StoreFault> for TrialStop {
 }
 
 /// Tells on standard error why the program ends, and gives its exit status.
-pub fn tell<R: Eprint>(rt: &R, stop: TrialStop) -> u8
+pub(crate) fn tell<R: Eprint>(rt: &R, stop: TrialStop) -> u8
     ensures { result ≤ 2 }
 {
     let _told = match stop {

@@ -10,7 +10,7 @@ use hh_requests::{Action, Upload};
 use hh_rows::Row;
 use hh_rules::Register;
 use hh_runs::RunKey;
-use hh_store::{KeptFile, Tables};
+use hh_store::Tables;
 use std::alloc::{AllocError, Global};
 use std::fmt::Debug;
 
@@ -71,18 +71,14 @@ fn tell_file<T: Tables>(
     text: &mut Vec<u8>,
 ) -> Result<(), TrialStop> {
     if let Some(file) = tables.file(upload.kind, &upload.name)? {
-        tell_kept(&file, text)?;
+        tell(text, &(file.applied(), file.late()))?;
+        text.extend_from_slice(file.body())?;
     }
     tell_rows(&tables.register(rows)?, rows, text)?;
     for row in rows {
         tell_party(tables, row, text)?;
     }
     Ok(())
-}
-
-fn tell_kept(file: &KeptFile, text: &mut Vec<u8>) -> Result<(), AllocError> {
-    tell(text, &(file.applied(), file.late()))?;
-    text.extend_from_slice(file.body())
 }
 
 fn tell_rows(register: &Register, rows: &[Row], text: &mut Vec<u8>) -> Result<(), AllocError> {

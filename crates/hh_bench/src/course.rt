@@ -10,7 +10,7 @@ use hh_requests::Reply;
 use hh_sqlstore::{Rising, SqlTables};
 use hh_store::Tables;
 use hh_time::london;
-use sqlite::{Connection, FileStore, Options};
+use sqlite::{Connection, Options};
 use sqlite_disk::{Disk, Files, Memory};
 use std::alloc::Global;
 
@@ -58,26 +58,8 @@ pub(crate) fn course_of(
         log: disk_of(alloc, log)?,
         db: disk_of(alloc, db)?,
     };
-    if !files.may_be_used() {
-        return Err(TrialStop::Input);
-    }
-    let left = match Connection::open_files(alloc, files, Options::new(1)) {
-        Ok(connection) => {
-            let (asked, connection) = heard.asked_over(alloc, connection, calls);
-            let left = left_by(connection);
-            asked?;
-            left
-        }
-        Err((error, left)) => {
-            heard.numbers.push(refusal_of(error).number())?;
-            left.into_files()
-        }
-    };
+    let left = heard.asked_of(alloc, files, calls)?;
     Ok(Course { heard, left })
-}
-
-fn left_by(connection: Connection<FileStore<Memory>>) -> Files<Memory> {
-    connection.into_store().close()
 }
 
 /// A disk in memory with these bytes.
@@ -89,6 +71,30 @@ fn disk_of(alloc: Global, bytes: &[u8]) -> Result<Memory, TrialStop> {
 }
 
 impl Heard {
+    /// Asks the office in a database of these files the calls, if they can be opened. The files in the end.
+    fn asked_of<D: Disk + Drop>(
+        &mut self,
+        alloc: Global,
+        files: Files<D>,
+        calls: &[Call],
+    ) -> Result<Files<D>, TrialStop> {
+        if !files.may_be_used() {
+            return Err(TrialStop::Input);
+        }
+        match Connection::open_files(alloc, files, Options::new(1)) {
+            Ok(connection) => {
+                let (asked, connection) = self.asked_over(alloc, connection, calls);
+                let left = connection.into_store().close();
+                asked?;
+                Ok(left)
+            }
+            Err((error, left)) => {
+                self.numbers.push(refusal_of(error).number())?;
+                Ok(left.into_files())
+            }
+        }
+    }
+
     /// Asks the office in a database the calls, if it is an office's.
     fn asked_over<S: Rising>(
         &mut self,
@@ -96,22 +102,13 @@ impl Heard {
         connection: Connection<S>,
         calls: &[Call],
     ) -> (Result<(), TrialStop>, Connection<S>) {
-        match SqlTables::adopt(alloc, connection) {
-            Ok(tables) => self.asked_in(alloc, tables, calls),
+        let tables = match SqlTables::adopt(alloc, connection) {
+            Ok(tables) => tables,
             Err((fault, connection)) => {
                 let noted = self.numbers.push(Fault::from(fault).refusal.number());
-                (noted.map_err(TrialStop::from), connection)
+                return (noted.map_err(TrialStop::from), connection);
             }
-        }
-    }
-
-    /// Asks the office in these tables the calls.
-    fn asked_in<S: Rising>(
-        &mut self,
-        alloc: Global,
-        tables: SqlTables<S>,
-        calls: &[Call],
-    ) -> (Result<(), TrialStop>, Connection<S>) {
+        };
         let mut office = Office::new(alloc, tables, london());
         let asked = self.ask_all(alloc, &mut office, calls);
         (asked, office.into_tables().into_connection())

@@ -29,19 +29,9 @@ pub(crate) fn run_words(rt: &HostRuntime, words: &[String]) -> Result<(), TrialS
         ("answer", _) => answer_inputs(rt, &kind_of(rt, given)?),
         ("log", [database, calls @ ..]) => write_log(rt, database.as_str(), &calls_of(rt, calls)?),
         ("refuse", [way, how, store, calls @ ..]) => {
-            let plan = Plan {
-                way: way_of(way.as_str())?,
-                how: match how.as_str() {
-                    "once" => ONCE,
-                    "on" => ON,
-                    _ => return Err(TrialStop::Words),
-                },
-                calls: calls_of(rt, calls)?,
-            };
-            match store.as_str() {
-                "memory" => sweep_all(rt, &InMemory, &plan),
-                path => sweep_all(rt, &InFile { path }, &plan),
-            }
+            let (way, how) = manner_of(way.as_str(), how.as_str())?;
+            let calls = calls_of(rt, calls)?;
+            refuse_by(rt, store.as_str(), &Plan { way, how, calls })
         }
         _ => Err(TrialStop::Words),
     }
@@ -76,12 +66,25 @@ fn office_by(
     run_office(rt, database, script, is_small, made)
 }
 
-fn way_of(word: &str) -> Result<Way, TrialStop> {
-    match word {
-        "handle" => Ok(Way::Handle),
-        "serve" => Ok(Way::Serve),
-        "together" => Ok(Way::Together),
+/// By which call requests are tried, and the folder of paths that tell the library what to refuse.
+fn manner_of(way: &str, how: &str) -> Result<(Way, &'static str), TrialStop> {
+    let way = match way {
+        "handle" => Way::Handle,
+        "serve" => Way::Serve,
+        "together" => Way::Together,
+        _ => return Err(TrialStop::Words),
+    };
+    match how {
+        "once" => Ok((way, ONCE)),
+        "on" => Ok((way, ON)),
         _ => Err(TrialStop::Words),
+    }
+}
+
+fn refuse_by(rt: &HostRuntime, store: &str, plan: &Plan) -> Result<(), TrialStop> {
+    match store {
+        "memory" => sweep_all(rt, &InMemory, plan),
+        path => sweep_all(rt, &InFile { path }, plan),
     }
 }
 

@@ -7,7 +7,6 @@ use crate::stores::{InMemory, Store};
 use crate::ways::{Attempt, Way, tried};
 use hh_devices::{StreamSink, write_whole};
 use hh_office::Office;
-use hh_plain_tables::PlainTables;
 use hh_store::Tables;
 use hh_time::london;
 
@@ -93,7 +92,7 @@ pub(crate) fn sweep_all<S: Store>(
 
 impl<S: Store> Trial<'_, S> {
     /// Tries each call. What should come of it comes of the same call over tables in memory, the twin.
-    fn sweep_each(&mut self, mut twin: PlainTables) -> Result<(), TrialStop> {
+    fn sweep_each<T: Tables + Drop>(&mut self, mut twin: T) -> Result<(), TrialStop> {
         for place in 0..self.plan.calls.len() {
             let (right, behind) = self.right_of(place, twin);
             twin = behind;
@@ -103,11 +102,7 @@ impl<S: Store> Trial<'_, S> {
     }
 
     /// What should come of the call at a place, by tables in memory. They are returned as they are after it.
-    fn right_of(
-        &self,
-        place: usize,
-        mut twin: PlainTables,
-    ) -> (Result<Right, TrialStop>, PlainTables) {
+    fn right_of<T: Tables>(&self, place: usize, mut twin: T) -> (Result<Right, TrialStop>, T) {
         let before = contents_of(self.rt.alloc(), &mut twin, &self.plan.calls);
         let (came, mut twin) = made_over(self.rt, self.plan, place, 0, twin);
         let after = contents_of(self.rt.alloc(), &mut twin, &self.plan.calls);

@@ -1,5 +1,5 @@
 use Rattle.std.proofs.Common.{refl}
-use Rattle.hh_trials.proofs.measures.settle_once.Goals as goal
+use Rattle.hh_bench.proofs.measures.settle_once.Goals as goal
 
 pub settle_period-settled-requires-clause-listed : goal.settle_period-settled-requires-clause-listed
 settle_period-settled-requires-clause-listed c = (c.if-not-is_ready.ensures.0 refl).1

@@ -8,6 +8,7 @@ use hh_rows::{LeadMinutes, Settings};
 use hh_sqlstore::SqlTables;
 use hh_store::Tables;
 use sqlite::{Connection, FileStore, Options};
+use sqlite_disk::Disk;
 use sqlite_std_file::File;
 use std::alloc::{AllocError, Global};
 use std::fs;
@@ -85,26 +86,22 @@ impl Store for InFile<'_> {
     }
 
     fn end(&self, tables: SqlTables<FileStore<File>>) -> Result<(), TrialStop> {
-        closed(tables.into_connection())
+        Ok(tables.into_connection().close()?)
     }
 }
 
-fn made_in(
+fn made_in<D: Disk + Drop>(
     alloc: Global,
-    connection: Connection<FileStore<File>>,
+    connection: Connection<FileStore<D>>,
     settings: Settings,
-) -> Result<SqlTables<FileStore<File>>, TrialStop> {
+) -> Result<SqlTables<FileStore<D>>, TrialStop> {
     match SqlTables::create(alloc, connection, settings) {
         Ok(tables) => Ok(tables),
         Err((fault, connection)) => {
-            let _ = closed(connection);
+            let _ = connection.close();
             Err(TrialStop::from(fault))
         }
     }
-}
-
-fn closed(connection: Connection<FileStore<File>>) -> Result<(), TrialStop> {
-    Ok(connection.close()?)
 }
 
 impl InFile<'_> {
