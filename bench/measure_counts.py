@@ -3,10 +3,11 @@
 
 usage: measure_counts.py [--settle PROGRAM] [--bench PROGRAM] [--rounds 5] [--only WORK,..]
 The programs are by default crates/hh_settle/out/hh_settle and crates/hh_bench/out/hh_bench at the top of this
-repository; each may be a command of several words. There are five kinds of work:
+repository; each may be a command of several words. There are these kinds of work:
 
     day          the files of the day of gen_day.py loaded, SF, the prices again, R1 and three reports, by one script
     loads        the files of that day alone
+    parties, prices, contracts, meters    its parties and units alone, and these with the files of one kind
     period       `settle period` of the period of gen_period.py
     read_file    one reading of the day's largest file of meter volumes, by `hh_bench read`
     settle_period    one settlement of the period of hh_bench, by `hh_bench settle`
@@ -84,6 +85,17 @@ def loads_work(settle, folder):
     return script_work(settle, script, [build_rust_peer("peer_day", folder, *ONE_UNIT)])
 
 
+def kind_work(kind):
+    """The work of the files of a kind behind those of parties and units. Of parties it is that of the latter alone."""
+
+    def work(settle, folder):
+        wanted = {"parties", "units", kind}
+        lines = [line for line in lines_of_day(folder, 1).splitlines(keepends=True) if line.split()[3] in wanted]
+        return script_work(settle, script_of(folder, kind, lines), [build_rust_peer("peer_day", folder, *ONE_UNIT)])
+
+    return work
+
+
 def period_work(settle, folder):
     files = generate_period(folder)
     return Work([*settle, "period", *files], [build_rust_peer("peer_period", folder), *files], False)
@@ -102,6 +114,7 @@ def settle_work(bench, folder):
 KINDS = {
     "day": ("settle", day_work),
     "loads": ("settle", loads_work),
+    **{kind: ("settle", kind_work(kind)) for kind in ("parties", "prices", "contracts", "meters")},
     "period": ("settle", period_work),
     "read_file": ("bench", read_work),
     "settle_period": ("bench", settle_work),

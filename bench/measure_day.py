@@ -46,11 +46,11 @@ def read_arguments():
     return words
 
 
-def lines_of_day(folder, number):
-    """The lines that load the day with this number, in the order of its files. The first day is 1."""
+def lines_of_day(folder, number, *sizes):
+    """The lines that load the day with this number, in the order of its files. The first day is 1. The sizes are words of gen_day.py."""
     date = FIRST + datetime.timedelta(number - 1)
     day = folder / str(date)
-    subprocess.run([sys.executable, str(BENCH / "gen_day.py"), str(day), "--date", str(date)], check=True)
+    subprocess.run([sys.executable, str(BENCH / "gen_day.py"), str(day), "--date", str(date), *sizes], check=True)
     files = [line.split() for line in (day / "order").read_text().splitlines()]
     return "".join(f"load {MOMENT} {KEY} {kind} {day}/{name}\n" for kind, name in files)
 

@@ -41,12 +41,12 @@ def read_words():
     return words
 
 
-def new_office(program, folder, days):
-    """The path of an office with these days, each settled by SF."""
+def new_office(program, folder, days, *sizes):
+    """The path of an office with these days, each settled by SF. The sizes are words of gen_day.py."""
     database, lines = folder / "office.db", []
     for number in range(1, days + 1):
         date = FIRST + datetime.timedelta(number - 1)
-        lines += [lines_of_day(folder, number), f"run {LATER + A_DAY * number} {KEY} {date} SF\n"]
+        lines += [lines_of_day(folder, number, *sizes), f"run {LATER + A_DAY * number} {KEY} {date} SF\n"]
     for words in ("init", "--operator-key", KEY), ("script", "--strict", script_of(folder, "days", lines)):
         subprocess.run([program, words[0], "--db", str(database), *words[1:]], stdout=subprocess.DEVNULL, check=True)
     return database

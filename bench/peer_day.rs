@@ -220,7 +220,7 @@ struct Move {
 }
 
 struct Unit {
-    lead: u32,
+    leads: Vec<(i64, u32)>, // by the first day of each
     weighs: bool,
     range: (i64, i64),
 }
@@ -378,9 +378,18 @@ impl Office {
             let id = *self.unit_ids.entry(unit).or_insert(self.units.len() as u32);
             if let Some(unit) = self.units.get_mut(id as usize) {
                 unit.range = widened(Some(unit.range), range);
+                match unit.leads.last_mut() {
+                    Some(last) if last.1 == lead => last.0 = last.0.min(range.0),
+                    _ => {
+                        unit.leads.push((range.0, lead));
+                        for day in self.days.iter_mut().filter(|day| range.0 <= day.number && day.number <= range.1) {
+                            day.touched = [true; MOST];
+                        }
+                    }
+                }
                 continue;
             }
-            self.units.push(Unit { lead, weighs, range });
+            self.units.push(Unit { leads: vec![(range.0, lead)], weighs, range });
             self.unit_keys.push(unit);
         }
         rows

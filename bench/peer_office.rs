@@ -221,9 +221,16 @@ struct Move {
 }
 
 struct Unit {
-    lead: u32,
+    leads: Vec<(i64, u32)>, // by the first day of each
     weighs: bool,
     range: (i64, i64),
+}
+
+impl Unit {
+    /// The account that leads it on one of its days.
+    fn lead_on(&self, day: i64) -> u32 {
+        self.leads[self.leads.partition_point(|(first, _)| *first <= day) - 1].1
+    }
 }
 
 struct Party {
@@ -406,9 +413,18 @@ impl Office {
             let id = *self.unit_ids.entry(unit).or_insert(self.units.len() as u32);
             if let Some(unit) = self.units.get_mut(id as usize) {
                 unit.range = widened(Some(unit.range), range);
+                match unit.leads.last_mut() {
+                    Some(last) if last.1 == lead => last.0 = last.0.min(range.0),
+                    _ => {
+                        unit.leads.push((range.0, lead));
+                        for day in self.days.iter_mut().filter(|day| range.0 <= day.number && day.number <= range.1) {
+                            day.touched = [true; MOST];
+                        }
+                    }
+                }
                 continue;
             }
-            self.units.push(Unit { lead, weighs, range });
+            self.units.push(Unit { leads: vec![(range.0, lead)], weighs, range });
             self.unit_keys.push(unit);
         }
         rows
@@ -558,11 +574,12 @@ impl Office {
             Some(run) if same => (run.accounts.clone(), run.units.clone()),
             _ => (Rc::new(accounts), Rc::new(units)),
         };
+        let leads: Vec<u32> = units.iter().map(|id| all_units[*id as usize].lead_on(day.number)).collect();
         let mut space = Space { totals: vec![Totals::default(); names.len()], rests: Vec::new() };
         let periods: Vec<Rc<Period>> = (0..day.count)
             .map(|period| match former {
                 Some(run) if same && !day.touched[period] => run.periods[period].clone(),
-                _ => Rc::new(space.settle(day, period, &accounts, &units, all_units)),
+                _ => Rc::new(space.settle(day, period, &accounts, &units, &leads, all_units)),
             })
             .collect();
         let mut nets = vec![0; accounts.len()];
@@ -626,11 +643,11 @@ fn near(n: i128, k: u32, odd: u64) -> i64 {
 }
 
 impl Space {
-    fn settle(&mut self, day: &Day, period: usize, accounts: &[u32], ids: &[u32], units: &[Unit]) -> Period {
+    fn settle(&mut self, day: &Day, period: usize, accounts: &[u32], ids: &[u32], leads: &[u32], units: &[Unit]) -> Period {
         let totals = &mut self.totals;
         totals.fill(Totals::default());
         let meters = &day.meters[period];
-        for id in ids {
+        for (id, lead) in ids.iter().zip(leads) {
             let (unit, meter) = (&units[*id as usize], meters[*id as usize]);
             let (metered, tlm, balancing) = (i64::from(meter.metered), i64::from(meter.tlm), i64::from(meter.balancing));
             let mut rest = metered * tlm;
@@ -643,7 +660,7 @@ impl Space {
                 to.credited += part;
                 to.weight += if unit.weighs { part.abs() } else { 0 };
             }
-            let to = &mut totals[unit.lead as usize];
+            let to = &mut totals[*lead as usize];
             to.credited += rest;
             to.weight += if unit.weighs { rest.abs() } else { 0 };
             to.balancing += balancing * tlm;

@@ -55,15 +55,17 @@ class Found:
 
 
 class MoreRuns(Requests):
-    """Requests with many runs among them. For half of the dates nothing is missing."""
+    """Requests with many runs among them. For half of the dates nothing is missing. Units may get other lead accounts from the beginning."""
 
     def __init__(self, folder, seed):
         super().__init__(folder, seed)
+        self.first_succession = 0
         self.makers[self.order] = RUNS
 
     def first(self):
+        made = super().first()
         missing = [self.complete(at) for at in range(0, len(DATES), 2) for _ in ("prices", "meters")]
-        return [*super().first(), *itertools.chain.from_iterable(missing)]
+        return [*made, *itertools.chain.from_iterable(missing)]
 
     def order(self, at):
         """Mostly the next run of a date for which nothing is missing."""

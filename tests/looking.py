@@ -110,9 +110,6 @@ class MadeOffice:
             path = pathlib.Path(folder) / name
             path.write_bytes(text_of(kind, timely))
             self.tell("load", made, kind, str(path))
-            if kind == "units":
-                made.execute("DELETE FROM leads")
-                made.execute("INSERT INTO leads SELECT unit, day_from, party, side, day_to FROM units")
             counts = text_of(kind, rows), len(timely), len(rows) - len(timely)
             made.execute("UPDATE files SET body = ?, applied = ?, late = ? WHERE kind = ? AND name = ?", (*counts, kind, name))
         return name
@@ -136,7 +133,7 @@ class MadeOffice:
 
 class RandomOffice(MadeOffice):
     """An office with a market and days that are drawn from a seed. Readings, prices, contracts and reallocations are corrected between
-    the runs of each day."""
+    the runs of each day, and some units get another lead account."""
 
     DATES = "2024-03-31", "2024-07-01", "2024-10-27"
 
@@ -150,8 +147,9 @@ class RandomOffice(MadeOffice):
         self.numbers = range(1, periods(self.date) + 1)
         self.runs = []
         self.load("parties", [f"{party},2024-01-01,,party000{party}" for party in self.parties])
-        marks = [self.draw.choice(("no", "no", "yes")) for _ in self.units]
-        self.load("units", [f"{unit},{lead[:-2]},{lead[-1]},{mark},2024-01-01," for (unit, lead), mark in zip(self.units.items(), marks)])
+        self.marks = {unit: self.draw.choice(("no", "no", "yes")) for unit in self.units}
+        self.leads = {unit: [(lead, "2024-01-01")] for unit, lead in self.units.items()}
+        self.load("units", [self.led(unit, lead, "2024-01-01") for unit, lead in self.units.items()])
         self.fill()
         self.settle("SF", "R1", self.draw.choice(("R2", "DF")))
 
@@ -177,6 +175,25 @@ class RandomOffice(MadeOffice):
             noon = EARLY if self.draw.random() < 0.5 else midnight(datetime.date.fromisoformat(self.date)) + 12 * 3600
             self.load("contracts", [self.contract(self.draw.choice(list(self.pairs)), number) for number in some], noon)
             self.load("reallocations", [self.reallocation(*self.draw.choice(self.given), number) for number in some], noon)
+            self.succeed()
+
+    def succeed(self):
+        """Some units get another lead account, from the day of the runs on, or from the day before or after it. It is none to which a part
+        of the unit is given."""
+        date = datetime.date.fromisoformat(self.date) + datetime.timedelta(self.draw.choice((-1, 0, 0, 1)))
+        rows = []
+        for unit, leads in self.leads.items():
+            lead, first = leads[-1]
+            others = [account for account in self.accounts if account != lead and (unit, account) not in self.given]
+            if self.draw.random() < 0.4 and str(date) > first:
+                leads.append((self.draw.choice(others), str(date)))
+                rows.append(self.led(unit, *leads[-1]))
+        if rows:
+            self.load("units", rows)
+
+    def led(self, unit, lead, first):
+        """The row by which an account leads a unit from a date on."""
+        return f"{unit},{lead[:-2]},{lead[-1]},{self.marks[unit]},{first},"
 
     def energy(self, most):
         kwh = self.draw.randint(-most, most)

@@ -1,8 +1,9 @@
 """A random list of requests over both stores. An office in memory settles each Settlement Period of a run again, and one in a
 database file settles those that have changed. Each reply is the same, byte by byte, and so are the reports of each run and the
 balances. The file is opened again for each part of the list. Between some parts, a second file is turned into one of version 1, in
-which no positions are kept, and is migrated. What is kept beside the tables is computed again here, from the contracts in force and
-from the rows that were accepted, and so are the registrations of units."""
+which no positions are kept, and is migrated; after units have got other lead accounts, only into one without positions. What is kept
+beside the tables is computed again here, from the contracts in force and from the rows that were accepted. The registrations of units,
+and why rows of parties, units and reallocations are refused, are those of `registering.py`."""
 import collections
 import datetime
 import itertools
@@ -15,15 +16,16 @@ import tempfile
 import unittest
 
 import test_week
-from programs import SETTLE, need, settle
+from programs import IS_LONG, SETTLE, need, settle
+from registering import Register, date_of, day_of
 from test_commands import day_number
-from test_database import KINDS, OF_VERSION_ONE, VERSION, WITHOUT_POSITIONS, changed_by, content_of, leads_of, rows_of
+from test_database import KINDS, OF_VERSION_ONE, VERSION, WITHOUT_POSITIONS, changed_by, content_of, rows_of
 from test_desk import OPERATOR, text_of
 from test_serving import request
 from test_week import is_late, periods
 
-SEED = 13
-COUNT, PER_CALL = 2_000, 100
+SEED = 14
+COUNT, PER_CALL = 10_000 if IS_LONG else 2_000, 100
 # Among them are days on which clocks change, of 46 and 50 periods.
 DATES = ("2024-03-30", "2024-03-31", "2024-04-01", "2024-07-01", "2024-07-02", "2024-10-26", "2024-10-27", "2024-10-28")
 EVER = (0, len(DATES) - 1)
@@ -31,17 +33,20 @@ EVER = (0, len(DATES) - 1)
 FIRST_PARTIES = {"ALFA": EVER, "BETA": EVER, "GAMMA": EVER, "DELTA": (3, 4), "ECHO": (0, 2)}
 PARTIES = (*FIRST_PARTIES, "FOXTROT", "GOLF", "HOTEL")
 ACCOUNTS = [f"{party}-{side}" for party in PARTIES for side in "PC"]
-# A unit has the name of its lead account.
+# A unit has the name of its first lead account.
 FIRST_UNITS = {"ALFA-P": EVER, "BETA-C": EVER, "GAMMA-P": EVER, "DELTA-C": (3, 4)}
 INTERCONNECTOR = "GAMMA-P"
 # Sellers and buyers whose references are fixed from the beginning.
 PAIRS = (("ALFA-P", "BETA-C"), ("BETA-P", "GAMMA-C"), ("GAMMA-P", "ALFA-C"), ("ALFA-C", "BETA-P"))
 # The column of a row's date, by kind. Its period is in the next column.
 PLACES = {"meters": 1, "prices": 0, "contracts": 3, "reallocations": 2}
-# Before these parts of the list the second file is turned into one of version 1, without positions, and migrated.
-TURNED = (0, 4, 6, 11)
+# Before these parts of the list the second file is turned into one of version 1, without positions, and migrated. No unit has got
+# another lead account by then, which begins with this request. Before later parts only the positions are taken out.
+TURNED, FIRST_SUCCESSION, EMPTIED = (0, 4, 6), 700, (11, 15)
 # How many accepted files of each kind have all their rows in time, at least.
 LEAST = {"parties": 20, "units": 20, "meters": 150, "prices": 100, "contracts": 100, "reallocations": 50}
+# The kinds of files whose refusals, 30 to 42, are known here.
+REGISTERED = ("parties", "units", "reallocations")
 KEPT = ("refs", "contracts", "positions", "touched", "marks", "units", "leads")
 MIGRATED = (0, f"version {VERSION}\n".encode(), b"")
 BEGINS = re.compile(rb"applied=|run |refused |fault |HTTP/1\.1 |DAY REPORT |date,kind,|account,moved_pence\n")
@@ -66,6 +71,11 @@ def all_periods(at):
     return range(1, periods(DATES[at]) + 1)
 
 
+def may_have_part(unit, account):
+    """Whether most reallocations of a unit are to accounts like this. The unit mostly gets others as its lead accounts."""
+    return (ACCOUNTS.index(unit) + ACCOUNTS.index(account)) % 2 == 0
+
+
 def ordered(at, kind, moment):
     """The line that orders a run."""
     return f"run {moment} {OPERATOR} {DATES[at]} {KINDS[kind]}"
@@ -78,7 +88,9 @@ class Requests:
     def __init__(self, folder, seed):
         self.folder, self.draw = folder, random.Random(seed)
         self.files, self.loads = 0, []
-        self.ranges, self.read, self.priced = {}, set(), set()
+        self.register, self.is_accepted = Register(), False
+        self.first_succession, self.may_succeed = FIRST_SUCCESSION, False
+        self.read, self.priced = set(), set()
         self.latest = [-1] * len(DATES)
         self.changing = [self.draw.sample(all_periods(at), 6) for at in range(len(DATES))]
         self.rows = {
@@ -89,11 +101,12 @@ class Requests:
         }
         self.makers = {
             self.change: 53,
-            self.register: 7,
+            self.enroll: 7,
+            self.succeed: 7,
             self.load_again: 7,
             self.load_another: 4,
             self.load_nothing: 1,
-            self.order: 13,
+            self.order: 18,
             self.pass_a_limit: 0.7,
             self.report: 7,
             self.visit: 2,
@@ -102,6 +115,7 @@ class Requests:
     def draw_all(self, count):
         made = self.first()
         while len(made) < count:
+            self.may_succeed = len(made) >= self.first_succession
             (make,) = self.draw.choices(list(self.makers), self.makers.values())
             made += make(self.draw.randrange(len(DATES)))
         return made[:count]
@@ -110,11 +124,13 @@ class Requests:
         return self.draw.randrange(100) < percent
 
     def load(self, kind, rows, moment=0, name=None, key=OPERATOR):
-        """The line that loads a new file, in a folder of its own."""
+        """The line that loads a new file, in a folder of its own. What it registers is remembered."""
         self.files += 1
         path = self.folder / str(self.files) / (name or f"{self.files}.csv")
         path.parent.mkdir(parents=True)
         path.write_bytes(text_of(kind, rows))
+        if kind in REGISTERED and name is None and key == OPERATOR:
+            self.is_accepted = self.register.load(kind, rows, moment)[0] is None
         return f"load {moment} {key} {kind} {path}"
 
     def moment(self, at):
@@ -125,55 +141,103 @@ class Requests:
 
     # Registrations
 
-    def registered(self, at):
-        return [name for name, (first, last) in self.ranges.items() if first <= at <= last]
+    def parties(self, at):
+        day = day_of(DATES[at])
+        return [party for party, (first, last) in self.register.parties.items() if first <= day <= last]
 
     def units(self, at):
-        return [name for name in self.registered(at) if "-" in name]
+        day = day_of(DATES[at])
+        return [unit for unit, known in self.register.units.items() if known.lead_on(day)]
 
     def accounts(self, at):
-        return [f"{name}-{side}" for name in self.registered(at) if "-" not in name for side in "PC"]
+        return [f"{party}-{side}" for party in self.parties(at) for side in "PC"]
 
-    def row_of(self, name, first, last, marks=("no", "yes")):
-        """The row of a party, or of a unit."""
-        if "-" not in name:
-            return f"{name},{DATES[first]},{DATES[last]},{name.lower()}0000{self.draw.randint(1, 2)}"
-        return f"{name},{name[:-2]},{name[-1]},{marks[name == INTERCONNECTOR]},{DATES[first]},{DATES[last]}"
+    def party_row(self, party, first, last):
+        return f"{party},{DATES[first]},{DATES[last]},{party.lower()}0000{self.draw.randint(1, 2)}"
 
-    def range_for(self, name):
-        """A range that includes the one that a party or unit has, or now and then a smaller one."""
-        place = self.draw.randrange(len(DATES))
-        first, last = self.ranges.get(name, (place, place))
+    def unit_row(self, unit, lead, first, last, is_marked=None):
+        """The row of a unit."""
+        is_marked = unit == INTERCONNECTOR if is_marked is None else is_marked
+        return f"{unit},{lead[:-2]},{lead[-1]},{('no', 'yes')[is_marked]},{first},{last}"
+
+    def wider(self, first, last):
+        """A range that includes this one, or now and then a smaller one."""
         if self.chance(10) and first < last:
             return first + 1, last
         return max(first - self.draw.choice((0, 0, 1)), EVER[0]), min(last + self.draw.choice((0, 0, 1)), EVER[1])
 
-    def is_in_order(self, name, first, last):
-        """Whether a party or unit may have this range."""
-        old = self.ranges.get(name, (first, last))
-        around = self.ranges.get(name[:-2], (1, 0)) if "-" in name else EVER
-        return around[0] <= first <= old[0] and old[1] <= last <= around[1]
-
-    def register_as(self, name, first, last):
-        line = self.load("units" if "-" in name else "parties", [self.row_of(name, first, last)])
-        if self.is_in_order(name, first, last):
-            self.ranges[name] = first, last
+    def load_rows(self, kind, *rows):
+        """The line that loads rows of parties or of units."""
+        line = self.load(kind, rows)
+        if self.is_accepted:
             self.loads.append(line)
         return line
 
-    def register(self, _):
+    def places(self, party, at):
+        """The places of a party's first and last date, or that of this date if it isn't registered."""
+        days = self.register.parties.get(party)
+        return tuple(DATES.index(date_of(day)) for day in days) if days else (at, at)
+
+    def enroll(self, at):
         """A party or a unit that joins, gets a wider range or stays as it was, or a row that is refused."""
-        name = self.draw.choice((*PARTIES, *ACCOUNTS))
-        if name in FIRST_UNITS and self.chance(20):
-            return [self.load("units", [self.row_of(name, *self.ranges[name], marks=("yes", "no"))])]
-        return [self.register_as(name, *self.range_for(name))]
+        name, place = self.draw.choice((*PARTIES, *ACCOUNTS)), self.draw.randrange(len(DATES))
+        if name in PARTIES:
+            return [self.load_rows("parties", self.party_row(name, *self.wider(*self.places(name, place))))]
+        known = self.register.units.get(name)
+        if known is None:
+            first, last = self.wider(place, place)
+            return [self.load_rows("units", self.unit_row(name, name, DATES[first], DATES[last]))]
+        if self.chance(10):
+            return [self.load_rows("units", self.unit_row(name, known.latest.lead, date_of(known.latest.first), date_of(known.last), name != INTERCONNECTOR))]
+        return [self.load_rows("units", self.widening(name, known))]
+
+    def widening(self, unit, known):
+        """A row with the account that leads the unit on its last date. Mostly it has all dates of that registration, and more."""
+        last = DATES.index(date_of(known.last))
+        last = max(last - 1, 0) if self.chance(10) else min(last + self.draw.choice((0, 1)), EVER[1])
+        first = date_of(min(known.latest.first, day_of(DATES[last])))
+        if self.chance(15):
+            first = self.draw.choice(DATES[: last + 1])
+        elif len(known.registrations) == 1 and self.chance(50):
+            first = DATES[max(DATES.index(first) - 1, 0)]
+        return self.unit_row(unit, known.latest.lead, first, DATES[last])
+
+    def succeed(self, at):
+        """A unit that gets another lead account, once that may be; sometimes also a row that makes its last registration longer. Some rows
+        are refused. Mostly it is a unit of few dates, since a succession touches all dates to the unit's last."""
+        known = self.register.units
+        if not self.may_succeed or not known:
+            return []
+        unit = min(self.draw.choices(list(known), k=2), key=lambda name: known[name].last - known[name].first)
+        rows = [self.succession(unit, known[unit])]
+        if self.chance(15):
+            _, party, side, _, first, _ = rows[0].split(",")
+            rows.append(self.unit_row(unit, f"{party}-{side}", first, DATES[EVER[1]]))
+        return [self.load_rows("units", *rows)]
+
+    def succession(self, unit, known):
+        """Mostly it begins on one of the next dates and ends with the unit, its party is there on all its dates, and its account is one to
+        which few parts of the unit go."""
+        place = DATES.index(date_of(known.last))
+        last = max(place - 1, 0) if self.chance(6) else min(place + self.draw.choice((0, 0, 0, 1)), EVER[1])
+        next_dates = [date for date in DATES if known.latest.first < day_of(date) <= known.last + 1]
+        first = self.draw.choice(next_dates[:2] or [DATES[-1]])
+        if self.chance(20):
+            first = self.draw.choice((date_of(known.latest.first + self.draw.randint(0, 9)), self.draw.choice(DATES)))
+        first = min(first, DATES[last])
+        there = [party for party, (begin, end) in self.register.parties.items() if begin <= day_of(first) and day_of(DATES[last]) <= end]
+        others = [account for account in ACCOUNTS if account != known.latest.lead]
+        able = [account for account in others if account[:-2] in there] or others
+        fit = [account for account in able if not may_have_part(unit, account)] or able
+        (among,) = self.draw.choices((fit, able, others), (65, 25, 10))
+        return self.unit_row(unit, self.draw.choice(among), first, DATES[last])
 
     def first(self):
         """The first parties and units, and contracts for each period."""
-        made = []
-        for kind, names in (("parties", FIRST_PARTIES), ("units", FIRST_UNITS)):
-            self.ranges |= names
-            made.append(self.load(kind, [self.row_of(name, *places) for name, places in names.items()]))
+        made = [
+            self.load("parties", [self.party_row(party, *places) for party, places in FIRST_PARTIES.items()]),
+            self.load("units", [self.unit_row(unit, unit, DATES[first], DATES[last]) for unit, (first, last) in FIRST_UNITS.items()]),
+        ]
         for at in range(len(DATES)):
             rows = [self.contract(at, period, *pair) for pair in PAIRS for period in all_periods(at)]
             made.append(self.load("contracts", rows, before(at)))
@@ -232,7 +296,12 @@ class Requests:
     def reallocation_rows(self, at):
         """Reallocations, mostly of two units. At times more than everything of a unit is given away."""
         units = [self.draw.choice(("ALFA-P", "BETA-C")) if self.chance(60) else self.unit_on(at) for _ in range(3)]
-        return [self.reallocation(at, period, unit, self.account_on(at)) for period, unit in zip(self.some_periods(at), units)]
+        return [self.reallocation(at, period, unit, self.part_on(at, unit)) for period, unit in zip(self.some_periods(at), units)]
+
+    def part_on(self, at, unit):
+        """An account that a part of a unit may go to."""
+        fit = [account for account in self.accounts(at) if may_have_part(unit, account)]
+        return self.draw.choice(fit) if fit and self.chance(85) else self.account_on(at)
 
     # Loads
 
@@ -299,12 +368,12 @@ class Requests:
 
     def order_behind(self, at):
         """A run immediately after another, perhaps with a party that joins between them, which touches nothing."""
-        absent = [name for name in PARTIES if name not in self.registered(at)]
+        absent = [party for party in PARTIES if party not in self.parties(at)]
         if not absent or self.chance(40):
             return [self.run(at, self.next_kind(at))]
-        name = self.draw.choice(absent)
-        first, last = self.ranges.get(name, (at, at))
-        return [self.register_as(name, min(first, at), max(last, at)), self.run(at, self.next_kind(at))]
+        party = self.draw.choice(absent)
+        first, last = self.places(party, at)
+        return [self.load_rows("parties", self.party_row(party, min(first, at), max(last, at))), self.run(at, self.next_kind(at))]
 
     def pass_a_limit(self, at):
         """If a date can be run: contracts and a price that make a charge too large, a run, and a price that corrects it."""
@@ -388,6 +457,11 @@ def heard(output, visits):
             yield line
 
 
+def lines_of(path):
+    """The rows of a file, as they are written."""
+    return pathlib.Path(path).read_text(encoding="utf-8").splitlines()[1:]
+
+
 def first_of(rows):
     """Some of the rows that are wrong, because all of them would be too many to read."""
     return sorted(rows)[:5]
@@ -407,7 +481,7 @@ def nets_of(references, contracts):
 class OfficeInFile:
     """An office in a database file that was asked the list part by part, and what its file had after each part."""
 
-    def __init__(self, room, parts, turned=()):
+    def __init__(self, room, parts, turned=(), emptied=()):
         self.database = room / "office.db"
         room.mkdir()
         made = settle("init", "--db", str(self.database), "--operator-key", OPERATOR)
@@ -419,6 +493,8 @@ class OfficeInFile:
                 changed_by(self.database, *WITHOUT_POSITIONS, *OF_VERSION_ONE)
                 if settle("migrate", "--db", str(self.database)) != MIGRATED:
                     raise AssertionError(number)
+            if number in emptied:
+                changed_by(self.database, *WITHOUT_POSITIONS)
             self.replies += told(room / "script", part, "--db", self.database)
             self.kept.append({table: rows_of(self.database, table) for table in KEPT})
 
@@ -428,7 +504,8 @@ class Outcome:
     were touched since the latest run of their date."""
 
     def __init__(self):
-        self.files, self.ranges, self.runs, self.touched = set(), {}, collections.defaultdict(dict), set()
+        self.files, self.runs, self.touched = set(), collections.defaultdict(dict), set()
+        self.register, self.others = Register(), []  # answers that the rows of a file don't have by the register
         self.counts, self.later = collections.Counter(), []
 
     def take(self, asked, reply):
@@ -440,6 +517,8 @@ class Outcome:
         refused = re.match(rb"refused ([0-9]+) |fault ", reply)
         if refused:
             self.counts[what, int(refused[1] or 0)] += 1
+            if what == "load" and words[2] in REGISTERED and 30 <= int(refused[1] or 0) <= 42:
+                self.judge(asked, re.match(rb"refused (\d+) \w+ row (\d+)", reply))
         elif what == "load":
             self.load(int(words[0]), words[2], pathlib.Path(words[3]), int(reply.rpartition(b"=")[2]))
         elif what == "run":
@@ -454,19 +533,41 @@ class Outcome:
             return
         self.files.add((kind, path.name))
         self.counts[kind, "late" if late else "in time"] += 1
+        if kind in REGISTERED:
+            self.enroll(kind, path, moment)
         for row in test_week.rows_of(path):
-            if kind not in PLACES:
-                self.register(kind, row)
-            elif not is_late(kind, row, moment):
+            if kind in PLACES and not is_late(kind, row, moment):
                 date, period = row[PLACES[kind] :][:2]
                 self.touched.add((day_number(date), int(period)))
 
-    def register(self, kind, row):
-        """A party or a unit that joins, gets a wider range or stays as it was."""
-        dates = row[1:3] if kind == "parties" else row[4:6]
-        old = self.ranges.get(row[0])
-        self.counts[kind, "joined" if old is None else "widened" if old != dates else "stayed"] += 1
-        self.ranges[row[0]] = dates
+    def judge(self, asked, refused):
+        """A file whose row was refused. The register refuses the same row for the same reason, and doesn't change."""
+        _, moment, _, kind, path = asked.split(" ")
+        refusal, _ = self.register.load(kind, lines_of(path), int(moment))
+        if refusal != (int(refused[1]), int(refused[2])):
+            self.others.append((asked, refusal))
+
+    def enroll(self, kind, path, moment):
+        """A file that was accepted: parties and units that join, get a wider range or stay as they were, and units that get another lead
+        account. These touch each period of those of their dates that have a run."""
+        before = self.ranges(kind)
+        refusal, successions = self.register.load(kind, lines_of(path), moment)
+        if refusal:
+            self.others.append((path, refusal))
+        for name, days in self.ranges(kind).items():
+            if before.get(name) != days:
+                self.counts[kind, "widened" if name in before else "joined"] += 1
+        for first, last in successions:
+            dates = [date for date, runs in self.runs.items() if runs and first <= day_of(date) <= last]
+            self.counts[kind, "succeeded"] += 1
+            self.counts[kind, "settled before"] += bool(dates)
+            self.touched |= {(day_of(date), period) for date in dates for period in range(1, periods(date) + 1)}
+
+    def ranges(self, kind):
+        """The first and the last day of each party or unit."""
+        if kind == "units":
+            return {name: (unit.first, unit.last) for name, unit in self.register.units.items()}
+        return dict(self.register.parties) if kind == "parties" else {}
 
     def run(self, date, kind, accounts):
         """A run that was made, or that existed already."""
@@ -486,6 +587,59 @@ class Outcome:
         return {at for at in self.touched if at[0] in days}
 
 
+class Settled(Outcome):
+    """Also what each run settles and posts, from scratch: `bench/peer_office.py` is given the rows in force, and the account that leads each
+    unit on the date."""
+
+    def __init__(self):
+        super().__init__()
+        self.peer, self.references, self.nets = test_week.Peer().calls, {}, {}
+        self.in_force = {kind: collections.defaultdict(dict) for kind in PLACES}  # by day and period
+        self.rows = {"results": set(), "credits": set(), "postings": set()}
+
+    def load(self, moment, kind, path, late):
+        if (kind, path.name) not in self.files and kind in PLACES:
+            self.take_rows(kind, test_week.rows_of(path), moment)
+        super().load(moment, kind, path, late)
+
+    def take_rows(self, kind, rows, moment):
+        """Puts the rows in time in the place of those of their keys."""
+        if kind == "contracts":
+            for reference, seller, buyer, *_ in rows:
+                self.references.setdefault(reference, (self.peer["account"](seller), self.peer["account"](buyer)))
+        for row in self.peer["tuples"](kind, [row for row in rows if not is_late(kind, row, moment)]):
+            at = {"meters": 1, "prices": 0, "contracts": 1, "reallocations": 3}[kind]
+            self.in_force[kind][row[at : at + 2]][row[:at]] = row[at + 2 :]
+
+    def run(self, date, kind, accounts):
+        if kind not in self.runs[date]:
+            self.settle(day_of(date), KINDS.index(kind), range(1, periods(date) + 1))
+        super().run(date, kind, accounts)
+
+    def settle(self, day, kind, numbers):
+        parties = sorted(party for party, (first, last) in self.register.parties.items() if first <= day <= last)
+        units = [(name, unit.lead_on(day), unit.mark == "yes") for name, unit in sorted(self.register.units.items())]
+        units = [(name, self.peer["account"](lead), mark) for name, lead, mark in units if lead]
+        net = collections.Counter()
+        for period in numbers:
+            held = {kind: rows[day, period] for kind, rows in self.in_force.items()}
+            given = {}
+            for (unit, *to), part in held["reallocations"].items():
+                given.setdefault(unit, []).append((tuple(to), *part))
+            sold = [(*self.references[reference], kwh) for (reference,), (kwh,) in held["contracts"].items()]
+            meters = {unit: row for (unit,), row in held["meters"].items()}
+            accounts = [(party, side) for party in parties for side in (0, 1)]
+            rows, credits, _ = self.peer["settle"](accounts, units, meters, sold, given, held["prices"][()][0])
+            self.rows["results"] |= {(day, kind, period, *account, *figures) for account, *figures in rows}
+            self.rows["credits"] |= {(day, kind, period, *credit) for credit in credits}
+            for account, *_, charge, share in rows:
+                net[account] += charge + share
+        old = self.nets.get(day, {})
+        posted = {account: net[account] - old.get(account, 0) for account in net.keys() | old.keys()}
+        self.rows["postings"] |= {(day, kind, *account, pence) for account, pence in posted.items() if pence}
+        self.nets[day] = net
+
+
 class BothStores(unittest.TestCase):
     """What is told over tables in memory, over a file, and over a file that was turned into one of version 1 and migrated."""
 
@@ -500,18 +654,18 @@ class BothStores(unittest.TestCase):
         cls.requests = [*asked, *REPORTS]
         cls.in_memory = told(room / "script", cls.requests, "--operator-key", OPERATOR)
         cls.in_file = OfficeInFile(room / "new", cls.parts)
-        cls.of_before = OfficeInFile(room / "before", cls.parts, TURNED)
+        cls.of_before = OfficeInFile(room / "before", cls.parts, TURNED, EMPTIED)
 
-    def outcomes(self):
+    def outcomes(self, kind=Outcome):
         """What came of the requests, after each part."""
-        outcome, pairs = Outcome(), zip(self.requests, self.in_memory, strict=True)
+        outcome, pairs = kind(), zip(self.requests, self.in_memory, strict=True)
         for part in self.parts:
             for asked, reply in itertools.islice(pairs, len(part)):
                 outcome.take(asked, reply)
             yield outcome
 
-    def outcome(self):
-        *_, last = self.outcomes()
+    def outcome(self, kind=Outcome):
+        *_, last = self.outcomes(kind)
         return last
 
     def compare(self, replies):
@@ -543,7 +697,8 @@ class BothStores(unittest.TestCase):
             self.assertGreaterEqual(counts[kind, "widened"], 10, kind)
         self.assertGreaterEqual(counts["load", "again"], 50)
         refused = {cause: count for (what, cause), count in counts.items() if what == "load" and cause != "again"}
-        self.assertEqual(set(refused), {0, 14, 20, 30, 31, 33, 34, 35, 36, 37, 38, 39, 40, 60})
+        self.assertEqual(set(refused), {0, 14, 20, 30, 31, 33, 34, 35, 36, 37, 38, 39, 40, 41, 60})
+        self.assertGreaterEqual(min(refused[cause] for cause in (39, 40, 41)), 3)
         self.assertGreaterEqual(sum(refused.values()), 200)
         self.assertGreaterEqual(counts["enquiry", 200], 50)
         self.assertGreaterEqual(counts["enquiry", 403] + counts["enquiry", 404], 20)
@@ -599,19 +754,34 @@ class BothStores(unittest.TestCase):
         self.assertGreater(left, 1000)
 
     def test_registrations(self):
-        """After each part each unit has one, from its first date to its last. Some units have been widened to earlier dates, and some
-        to later ones."""
-        moved = collections.Counter()
-        for office in (self.in_file, self.of_before):
-            firsts = {}
-            for number, kept in enumerate(office.kept):
-                self.assertEqual(kept["leads"], leads_of(kept["units"]), (office.database, number))
-                for unit, first, *_, last in kept["leads"]:
-                    old = firsts.setdefault(unit, (first, last))
-                    moved.update({"earlier": first < old[0], "later": last > old[1]})
-                    firsts[unit] = first, last
-            self.assertGreater(len(firsts), 5)
+        """After each part they are those that the accepted rows make, and each unit has its latest lead account and its whole range. Some
+        units have been widened to earlier dates, and some to later ones. Some got another lead account for dates that had a run."""
+        moved, firsts = collections.Counter(), {}
+        for number, outcome in enumerate(self.outcomes()):
+            for office in (self.in_file, self.of_before):
+                kept = office.kept[number]
+                self.assertEqual(kept["leads"], outcome.register.lead_rows(), (office.database, number))
+                self.assertEqual(kept["units"], outcome.register.unit_rows(), (office.database, number))
+            for name, unit in outcome.register.units.items():
+                old = firsts.setdefault(name, (unit.first, unit.last))
+                moved.update({"earlier": unit.first < old[0], "later": unit.last > old[1]})
+                firsts[name] = unit.first, unit.last
+        self.assertGreater(len(firsts), 5)
         self.assertGreaterEqual(min(moved["earlier"], moved["later"]), 2, moved)
+        self.assertGreaterEqual(outcome.counts["units", "succeeded"], 12)
+        self.assertGreaterEqual(outcome.counts["units", "settled before"], 8)
+
+    def test_rows_that_are_refused(self):
+        """Rows of parties, units and reallocations: each that was refused, and no other, is refused by the register, for the same reason."""
+        self.assertEqual(self.outcome().others, [])
+
+    def test_what_runs_settle(self):
+        """Each run of both files has the figures, the credits and the postings that all its periods come to, settled from scratch."""
+        settled = self.outcome(Settled)
+        for office in (self.in_file, self.of_before):
+            for table, wanted in settled.rows.items():
+                self.assertEqual(first_of(wanted ^ set(rows_of(office.database, table))), [], (office.database, table))
+                self.assertGreater(len(wanted), 100)
 
     def test_rows_of_both_files(self):
         """All tables have the same rows, except for what is kept beside them. Each account is credited the sum of its credits."""

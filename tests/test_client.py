@@ -334,6 +334,19 @@ class WorkedPeriod(Checking):
         self.assertIn("  not checked in periods 1: your files have no row of the unit G1\n", told)
         self.assertEqual(status, 0)
 
+    def test_units_that_change_their_lead_account(self):
+        """The last row that is about the date counts. A unit that the party leads on other dates alone isn't one of the bill."""
+        own = [row for row in FILES["units"] if not row.startswith("S1")]
+        day_before, day_after = "2024-06-30", "2024-07-02"
+        for rows, status in (
+            (["S1,GENCO,C,no,2024-01-01,", f"S1,SUPCO,C,no,{DATE},"], 0),
+            (["S1,SUPCO,C,no,2024-01-01,", f"S1,GENCO,C,no,{day_after},"], 0),
+            (["S1,SUPCO,C,no,2024-01-01,", f"S1,GENCO,C,no,{DATE},"], 1),
+            (["S1,GENCO,C,no,2024-01-01,", f"S1,SUPCO,C,no,{day_before},", f"S1,SUPCO,P,no,{DATE},"], 1),
+        ):
+            with self.subTest(rows):
+                self.assertEqual(self.with_statement("SUPCO-C", units=[*own, *rows])[0], status)
+
     def test_the_statement_is_the_one_of_look(self):
         self.assertEqual(bill.STATEMENT, statement.CSV)
 

@@ -18,7 +18,7 @@ from programs import HOME, IS_LONG, settle
 from test_command_faults import EXISTS, NO_FILE, PATIENCE, STORE, Faults
 from test_commands import answer, words_of
 from test_database import OF_VERSION_ONE, TABLES_OF_ONE, TODAY, VERSION, changed_by, content_of, content_of_any, rows_of
-from test_desk import APPLIED, DAY, DEARER, EARLY, END, LOADED, MARKET, OPERATOR, SETTLED, text_of
+from test_desk import APPLIED, DAY, DEARER, EARLY, END, LEADS_CHANGE, LOADED, MARKET, OPERATOR, SETTLED, text_of
 from test_reports import BALANCES, DAY_REPORT, balances
 from test_serving import reply, request
 
@@ -124,6 +124,14 @@ class Ended(Faults):
         after = content_of(self.base)
         changed_by(self.base, *OF_VERSION_ONE)
         return content_of(self.base, TABLES_OF_ONE), after
+
+    def settle_first(self):
+        """The office has a run from now on. The words of a load by which units get a wider range and other lead accounts, and what it is
+        answered. The dates of one of them have the run."""
+        self.answers(self.order("SF", END), SETTLED)
+        shutil.copy(self.database, self.base)
+        words = "load", "--key", OPERATOR, f"--at={EARLY}", "units", self.path("leads.csv", text_of("units", LEADS_CHANGE))
+        return words, answer(f"applied={len(LEADS_CHANGE)} late=0")
 
     def compiled(self, name):
         """A library that is preloaded into a program, built from its source."""
@@ -334,6 +342,10 @@ class KilledAtEachCall(Ended):
     def test_a_run(self):
         self.kill_one("run", lambda number: self.killed(number, "run", *self.commands["run"]), answer(SETTLED)[1])
 
+    def test_units_that_change_their_lead_account(self):
+        words, wanted = self.settle_first()
+        self.kill_one("leads", lambda number: self.killed(number, *words), wanted[1])
+
     def test_a_service_that_loads(self):
         sent = request("POST", "/files/prices/p2.csv", OPERATOR, text_of("prices", [f"{DAY},1,60.00000"]))
         self.kill_one("load", lambda number: self.served(number, sent), reply(200, '{"applied":1,"late":0}'))
@@ -476,6 +488,10 @@ class RefusedMemory(Ended):
 
     def test_a_run(self):
         self.refuse_each(answer(SETTLED), "run", *self.commands["run"])
+
+    def test_units_that_change_their_lead_account(self):
+        words, wanted = self.settle_first()
+        self.refuse_each(wanted, *words)
 
     def test_reports(self):
         self.answers(self.order("SF", END), SETTLED)

@@ -266,8 +266,8 @@ class WorkedFiles(AtAFile):
         self.assertEqual(self.in_force(), {"C1": 96_000})
 
     def test_registrations_of_units(self):
-        """A unit has one, from its first date to its last. A row with a wider range takes the place of the unit's own, also where it
-        begins earlier. A refused file changes none."""
+        """A unit that keeps its lead account has one, from its first date to its last. A row with a wider range takes the place of the
+        unit's own, also where it begins earlier. A refused file changes none."""
         kept = rows_of(self.database, "leads")
 
         def leads(*more):
@@ -300,6 +300,28 @@ class WorkedFiles(AtAFile):
         self.changes_nothing(self.load("units", [*rows, "W2,SUPCO,C,yes,2024-05-02,2024-05-03"], "refused.csv"), "refused 39 ShrinksRange row 3")
         self.answers(self.load("units", rows, "two.csv"), "applied=2 late=0")
         leads(own, ("W2", "2024-05-01", "SUPCO", 1, "2024-05-03"))
+
+    def test_units_that_change_their_lead_account(self):
+        """`leads` has a row for each registration, and `units` the latest lead account and the whole range. The runs of the dates keep
+        what they have."""
+        self.answers(self.order("SF", END), test_desk.SETTLED)
+        self.answers(self.load("parties", "NEWCO,2024-01-01,,newco0001", "n.csv"), APPLIED)
+        before = content_of(self.database)
+        self.answers(self.load("units", [f"S1,NEWCO,C,no,{DAY},"], "s.csv"), APPLIED)
+        other = ("G1", NEW_YEAR, "GENCO", 0, LAST_DAY)
+        self.assertEqual(rows_of(self.database, "leads"), [other, ("S1", NEW_YEAR, "SUPCO", 1, TODAY - 1), ("S1", TODAY, "NEWCO", 1, LAST_DAY)])
+        self.assertEqual(rows_of(self.database, "units")[1:], [("S1", "NEWCO", 1, 0, NEW_YEAR, LAST_DAY)])
+        self.assertEqual(rows_of(self.database, "touched"), [(TODAY, period) for period in range(1, 49)])
+        after = content_of(self.database)
+        changed = {table for table in before if before[table] != after[table]}
+        self.assertEqual(changed, {"leads", "units", "files", "touched"})
+        self.answers(self.order("R1"), f"run {DAY} R1 periods 48 accounts 6 residual 5050 postings 2")
+        posted = [row[2:] for row in rows_of(self.database, "postings") if row[1] == 1]
+        self.assertEqual(posted, [("NEWCO", 1, 494_962), ("SUPCO", 1, -494_962)])
+        credits = {row[3:] for row in rows_of(self.database, "credits") if row[1:3] == (1, 1)}
+        self.assertEqual(credits, {("G1", "GENCO", 0, 995_000_000_000), ("S1", "NEWCO", 1, -984_900_000_000)})
+        self.assertEqual(rows_of(self.database, "touched"), [])
+        self.changes_nothing(self.load("units", ["S1,NEWCO,C,no,2024-07-02,"], "t.csv"), "refused 39 ShrinksRange row 1")
 
     def test_a_bad_third_row(self):
         rows = [f"C{number},GENCO-P,{'SUPCO-C' if number < 4 else 'GENCO-P'},{DAY},1,1.000" for number in (2, 3, 4)]
@@ -385,6 +407,10 @@ class Repeats(ByCommands, test_desk.Repeats):
 
 
 class Rows(ByCommands, test_desk.Rows):
+    pass
+
+
+class Successions(ByCommands, test_desk.Successions):
     pass
 
 

@@ -176,6 +176,10 @@ class Rows(InAFile, test_desk.Rows):
     pass
 
 
+class Successions(InAFile, test_desk.Successions):
+    pass
+
+
 class Whole(InAFile, test_desk.Whole):
     pass
 
@@ -199,6 +203,10 @@ class RepeatsAnew(Anew, test_desk.Repeats):
 
 
 class RowsAnew(Anew, test_desk.Rows):
+    pass
+
+
+class SuccessionsAnew(Anew, test_desk.Successions):
     pass
 
 
@@ -262,6 +270,28 @@ class Positions(InAFile):
                 self.replies_over(database, *lines)
                 self.assertEqual(self.settled_again(database, before, kind), wanted)
             before = kind
+
+    def test_what_a_succession_touches(self):
+        """All Settlement Periods of those of its dates that have a run, and no others. Here the date before it has a run, the first of its
+        dates has one, and the next has none and is touched by its readings. A row with the same lead account touches none."""
+        dates = "2024-06-30", DAY, "2024-07-02"
+        rows = {date: {kind: [row.replace(DAY, date) for row in rows] for kind, rows in MARKET} for date in dates}
+        loads = [self.load(kind, rows[date][kind], f"{date}.csv") for date in (dates[0], dates[2]) for kind in ("meters", "prices")]
+        runs = [self.order("SF", date=date) for date in dates[:2]]
+        before = [self.load("parties", "NEWCO,2024-01-01,,newco0001", "n.csv"), *loads, *runs]
+        after = [(TODAY + 1, period) for period in range(1, 49)]
+        for row, touched in (
+            ("S1,SUPCO,C,no,2024-01-01,", after),
+            ("S1,NEWCO,C,no,2024-07-03,", after),
+            (f"S1,NEWCO,C,no,{DAY},", [*((TODAY, period) for period in range(1, 49)), *after]),
+        ):
+            database, told = self.loaded(*before)
+            self.assertTrue(all(line.startswith(("applied=", "run ")) for line in told), told)
+            self.assertEqual(rows_of(database, "touched"), after)
+            self.assertEqual(self.replies_over(database, self.load("units", row, "s.csv")), [APPLIED])
+            self.assertEqual(rows_of(database, "touched"), touched)
+        self.assertEqual(self.settled_again(database, "SF", "R1"), [*range(1, 49)])
+        self.assertEqual(self.replies_over(database, self.order("R1", date=dates[0])), [f"run {dates[0]} R1 periods 48 accounts 6 residual 5050 postings 0"])
 
     def test_a_unit_that_joins_a_date(self):
         """No Settlement Period is touched, and the first lacks the reading of the unit."""
@@ -406,10 +436,9 @@ class Beside(InAFile):
             peer["run"](peer["connection"], DAY, "SF")
         self.assertEqual(made[-1:], told.getvalue().splitlines())
         for table in TABLES:
-            if table not in ("settings", "positions", "touched", "marks", "leads"):
+            if table not in ("settings", "positions", "touched", "marks"):
                 with self.subTest(table):
                     self.assertEqual(set(rows_of(database, table)), set(peer["connection"].execute(f"SELECT * FROM {table}")))
-        self.assertEqual(rows_of(database, "leads"), leads_of(rows_of(database, "units")))
 
     def peer_of(self, folder, files):
         """The peer over tables in memory, after it has loaded these files."""

@@ -45,6 +45,14 @@ MARKET = [
     ),
     ("prices", [f"{DAY},1,50.00000"] + [f"{DAY},{period},0" for period in IDLE]),
 ]
+# A unit that joins, gets a wider range and then another lead account; and one of the market that another account leads from the day on.
+# They change no figure of a run that was made.
+LEADS_CHANGE = [
+    "W1,GENCO,P,no,2024-07-10,2024-07-20",
+    "W1,GENCO,P,no,2024-07-09,2024-07-21",
+    "W1,GENCO,C,no,2024-07-15,2024-07-21",
+    f"S1,SUPCO,P,no,{DAY},",
+]
 # Two parties, two units, one contract, and for 48 periods two readings and a price each.
 LOADED = ["applied=2 late=0", "applied=2 late=0", "applied=1 late=0", "applied=96 late=0", "applied=48 late=0"]
 APPLIED = "applied=1 late=0"
@@ -649,7 +657,7 @@ class Rows(Desk):
         self.refused("units", "G1,GENCO,P,no,2024-01-02,", "refused 39 ShrinksRange row 1")
         for row in ("G1,SUPCO,P,no,2024-01-01,", "G1,GENCO,C,no,2024-01-01,", "G1,GENCO,P,yes,2024-01-01,"):
             self.refused("units", row, "refused 40 UnitMoved row 1")
-        self.refused("units", "G1,GENCO,C,no,2024-01-02,", "refused 39 ShrinksRange row 1")
+        self.refused("units", "G1,GENCO,C,no,2024-01-02,", APPLIED)
 
     def test_readings(self):
         self.refused("meters", f"U1,{DAY},49,1,1,0", "refused 31 UnknownUnit row 1")
@@ -699,6 +707,175 @@ class Rows(Desk):
         rows = [f"U{number},GENCO,P,no,2024-01-01," for number in range(1999)]
         self.refused("units", rows, "refused 42 TooMany row 1999")
         self.refused("units", rows[:1998], "applied=1998 late=0")
+
+
+class Successions(Desk):
+    """Units that get another lead account from a date on. S1 is led by SUPCO-C, and NEWCO takes it over."""
+
+    TAKES_OVER = f"S1,NEWCO,C,no,{DAY},"
+    # Loads and runs: NEWCO joins after SF.
+    BEFORE = [*LOADED, SETTLED, APPLIED]
+    # 98.49 MWh of demand are NEWCO-C's now, for which it has bought nothing: at 50 pounds it pays 492,450 pence. SUPCO-C still has the
+    # 99 MWh that it bought, and is paid 495,000. As before, 5,050 pence are left, and 99.5 and 98.49 MWh of credited energy bear them.
+    RESULTS = {
+        "GENCO-P": ("99.5000000000", "99.0000000000", "0.5000000000", -2500, 2538),
+        "NEWCO-C": ("-98.4900000000", "0.0000000000", "-98.4900000000", 492_450, 2512),
+        "SUPCO-C": ("0.0000000000", "-99.0000000000", "99.0000000000", -495_000, 0),
+    }
+
+    def units(self, *rows, name="s.csv"):
+        return self.load("units", [*rows], name)
+
+    def after_it_joins(self, *lines, options=()):
+        """What is printed for these lines once the market is settled and NEWCO has joined."""
+        before = [*self.market(), self.order("SF", END), self.load("parties", "NEWCO,2024-01-01,,newco0001", "n.csv")]
+        found = self.replies(*before, *lines, options=options)
+        self.assertEqual(found[:7], self.BEFORE)
+        return found[7:]
+
+    def answers(self, *pairs):
+        """Each line is answered so, one after the other."""
+        self.assertEqual(self.after_it_joins(*(line for line, _ in pairs)), [told for _, told in pairs])
+
+    def answers_rows(self, *pairs):
+        """A file of each row of units is answered so."""
+        self.answers(*((self.units(row, name=f"{number}.csv"), told) for number, (row, told) in enumerate(pairs)))
+
+    def test_what_is_refused(self):
+        self.answers_rows(
+            (f"S1,NEWCO,C,no,{DAY},2024-12-31", "refused 39 ShrinksRange row 1"),
+            ("S1,NEWCO,C,no,2024-01-01,", "refused 40 UnitMoved row 1"),
+            (f"S1,NEWCO,C,yes,{DAY},", "refused 40 UnitMoved row 1"),
+            (self.TAKES_OVER, APPLIED),
+            ("S1,SUPCO,C,no,2024-01-01,", "refused 40 UnitMoved row 1"),
+        )
+
+    def test_a_lead_account_that_has_a_part(self):
+        """Also if it is one of nothing, in the last period of a later date. No hindrance are a part on the day before, one that came late,
+        and one of another account or of another unit."""
+        part, none = "S1,NEWCO-C,{},1,10,0", "S1,NEWCO-C,2025-03-30,46,0,0"
+        takes, hinders = (self.units(self.TAKES_OVER), APPLIED), (self.units(self.TAKES_OVER), "refused 41 LeadIsSubsidiary row 1")
+
+        def given(row, told=APPLIED, moment=EARLY):
+            return self.load("reallocations", row, "r.csv", moment), told
+
+        self.answers(given(part.format(DAY)), hinders)
+        self.answers(given(none), hinders)
+        self.answers(given("S1,NEWCO-C,2024-06-30,48,10,0"), takes)
+        self.answers(given(part.format(DAY), LATE, DEADLINE), takes)
+        self.answers(given(part.format(DAY).replace("-C", "-P")), takes)
+        self.answers(given(part.format(DAY).replace("S1", "G1")), takes)
+        self.answers(given(part.format(DAY).replace("NEWCO", "GENCO")), takes)
+
+    def test_the_next_run(self):
+        lines = [self.units(self.TAKES_OVER), self.order("R1"), f"report {OPERATOR} csv {DAY} R1", f"report {OPERATOR} balances"]
+        told = self.after_it_joins(*lines)
+        self.assertEqual(told[:2], [APPLIED, f"run {DAY} R1 periods 48 accounts 6 residual 5050 postings 2"])
+        zero = "0.0000000000"
+        wanted = ["date,kind,account,period,credited,balancing,contracts,imbalance,charge,share"]
+        nets = {}
+        for account in ("GENCO-P", "GENCO-C", "NEWCO-P", "NEWCO-C", "SUPCO-P", "SUPCO-C"):
+            credited, contracts, imbalance, *cash = self.RESULTS.get(account, (zero, zero, zero, 0, 0))
+            wanted.append(f"{DAY},R1,{account},1,{credited},{zero},{contracts},{imbalance},{','.join(map(str, cash))}")
+            nets[account] = sum(cash)
+        self.assertEqual(told[2:9], wanted)
+        self.assertEqual({row.split(",", 4)[4] for row in told[9 : 3 + 48 * 6]}, {f"{zero},{zero},{zero},{zero},0,0"})
+        self.assertEqual((nets["GENCO-P"], nets["NEWCO-C"], nets["SUPCO-C"]), (38, 494_962, -495_000))
+        self.assertEqual(told[3 + 48 * 6 :], ["account,moved_pence", *(f"{account},{net}" for account, net in nets.items())])
+
+    def test_the_lead_account_of_each_date(self):
+        """A reallocation to the lead account of its own date is refused."""
+        own = "refused 37 OwnLead row 1"
+        cases = (("SUPCO-C", "2024-06-30", own), ("NEWCO-C", DAY, own), ("NEWCO-C", "2024-06-30", APPLIED), ("SUPCO-C", DAY, APPLIED))
+        parts = ((self.load("reallocations", f"S1,{account},{date},48,10,0", f"{account}{date}"), told) for account, date, told in cases)
+        self.answers((self.units(self.TAKES_OVER), APPLIED), *parts)
+
+    def test_a_date_before(self):
+        """On 2024-06-30 nothing is sold. At 50 pounds GENCO-P is paid 497,500 pence and the lead account of S1 pays 492,450; of the 5,050
+        that are left they bear 2,538 and 2,512."""
+        date = "2024-06-30"
+        rows = {kind: [row.replace(DAY, date) for row in rows] for kind, rows in MARKET}
+        lines = [self.load(kind, rows[kind], f"before-{kind}.csv") for kind in ("meters", "prices")]
+        lines += [self.units(self.TAKES_OVER), self.order("SF", date=date), f"report {OPERATOR} csv {date} SF"]
+        told = self.after_it_joins(*lines)
+        self.assertEqual(told[:4], ["applied=96 late=0", "applied=48 late=0", APPLIED, f"run {date} SF periods 48 accounts 6 residual 5050 postings 2"])
+        figures = [row.split(",") for row in told[5:11]]
+        cash = {row[2]: (int(row[-2]), int(row[-1])) for row in figures if row[-2:] != ["0", "0"]}
+        self.assertEqual(cash, {"GENCO-P": (-497_500, 2538), "SUPCO-C": (492_450, 2512)})
+
+    def test_where_a_succession_begins(self):
+        """After the first day of the last registration, and at latest on the day after the unit's last. It ends no earlier than the unit."""
+        moved, shrinks = "refused 40 UnitMoved row 1", "refused 39 ShrinksRange row 1"
+        first = self.units("S2,SUPCO,C,no,2024-01-01,2024-06-30", name="s2.csv")
+        for row, told in (
+            ("2024-07-02,2024-12-31", moved),
+            ("2024-01-01,2024-06-30", moved),
+            ("2024-01-02,2024-06-29", shrinks),
+            ("2024-01-02,2024-06-30", APPLIED),
+            ("2024-06-30,2024-06-30", APPLIED),
+            (f"{DAY},2024-12-31", APPLIED),
+            (f"{DAY},{DAY}", APPLIED),
+        ):
+            with self.subTest(row):
+                self.answers((first, APPLIED), (self.units(f"S2,NEWCO,C,no,{row}"), told))
+
+    def test_the_last_days(self):
+        """A registration may end on the last date that there is, and begin on it."""
+        last = "2099-12-31"
+        self.answers_rows(
+            (f"S1,NEWCO,C,no,{last},{last}", APPLIED),
+            (f"S1,GENCO,C,no,{last},", "refused 40 UnitMoved row 1"),
+            (f"S1,NEWCO,C,no,{last},", APPLIED),
+        )
+
+    def test_a_widening_of_the_last_registration(self):
+        shrinks, moved = "refused 39 ShrinksRange row 1", "refused 40 UnitMoved row 1"
+        self.answers_rows(
+            ("S2,SUPCO,C,no,2024-02-01,2024-12-31", APPLIED),
+            ("S2,SUPCO,C,no,2024-01-15,2024-12-31", APPLIED),
+            (f"S2,NEWCO,C,no,{DAY},2024-12-31", APPLIED),
+            ("S2,NEWCO,C,no,2024-07-02,2025-12-31", shrinks),
+            (f"S2,NEWCO,C,no,{DAY},2024-12-30", shrinks),
+            ("S2,NEWCO,C,no,2024-06-30,2025-12-31", moved),
+            ("S2,NEWCO,C,no,2024-01-15,2025-12-31", moved),
+            (f"S2,NEWCO,C,yes,{DAY},2025-12-31", moved),
+            (f"S2,NEWCO,C,no,{DAY},2025-12-31", APPLIED),
+            ("S2,SUPCO,C,no,2026-01-02,2026-12-31", moved),
+            ("S2,SUPCO,C,no,2026-01-01,2026-12-31", APPLIED),
+        )
+
+    def test_the_smallest_number(self):
+        """Each row meets all that follow in the list, too."""
+        part = self.load("reallocations", f"S1,NEWCO-C,{DAY},1,10,0", "r.csv")
+        rows = (
+            (f"S1,NOBODY,C,yes,{DAY},{DAY}", "refused 30 UnknownParty row 1"),
+            (f"S1,NEWCO,C,yes,2023-12-31,{DAY}", "refused 33 NotEffective row 1"),
+            (f"S1,NEWCO,C,yes,{DAY},{DAY}", "refused 39 ShrinksRange row 1"),
+            (f"S1,NEWCO,C,yes,{DAY},", "refused 40 UnitMoved row 1"),
+            (f"S1,NEWCO,C,no,{DAY},", "refused 41 LeadIsSubsidiary row 1"),
+        )
+        self.answers((part, APPLIED), *((self.units(row, name=f"{number}.csv"), told) for number, (row, told) in enumerate(rows)))
+
+    def test_the_lead_party_is_there_on_all_dates(self):
+        ends = self.load("parties", "ENDS,2024-01-01,2024-12-31,ends00001", "e.csv")
+        self.answers((ends, APPLIED), (self.units(f"S1,ENDS,C,no,{DAY},"), "refused 33 NotEffective row 1"))
+
+    def test_rows_see_the_rows_before_them(self):
+        """A unit comes back to an account that it had, and the other account of a party is another. A refused file changes nothing."""
+        rows = [self.TAKES_OVER, "S1,NEWCO,P,no,2024-07-08,", "S1,SUPCO,C,no,2024-07-15,"]
+        self.answers(
+            (self.units(*rows, "S1,GENCO,C,no,2024-07-15,", name="a.csv"), "refused 40 UnitMoved row 4"),
+            (self.units(*rows, f"S1,SUPCO,C,no,{DAY},", name="b.csv"), "refused 40 UnitMoved row 4"),
+            (self.order("R1"), f"run {DAY} R1 periods 48 accounts 6 residual 5050 postings 0"),
+            (self.units(*rows, name="a.csv"), "applied=3 late=0"),
+            (self.units(*rows, name="c.csv"), "refused 40 UnitMoved row 1"),
+            (self.order("R2"), f"run {DAY} R2 periods 48 accounts 6 residual 5050 postings 2"),
+        )
+
+    def test_a_file_that_comes_again(self):
+        line, back = self.units(self.TAKES_OVER), self.units("S1,SUPCO,C,no,2024-07-08,", name="t.csv")
+        run = self.order("R1"), f"run {DAY} R1 periods 48 accounts 6 residual 5050 postings 2"
+        self.answers((line, APPLIED), (back, APPLIED), (line, APPLIED), run)
 
 
 class Whole(Desk):

@@ -161,12 +161,24 @@ class Rows(Explained):
         )
 
     def test_units(self):
-        moved = "unit G1 is registered with another party, side or interconnector mark"
+        moved = (
+            "unit {} has another interconnector mark, or {} can't lead it from {} on: a lead account begins later than the one before it, "
+            "and leaves out no day"
+        )
+        shrinks = "the dates from {} to {} leave out the last ones of unit {}, or the first ones of its last lead account"
+        part = self.load("reallocations", realloc("SUPCO-C", 10), "part.csv"), APPLIED, None
+        is_part = "a reallocation in force gives a part of unit G1 to SUPCO-C on a date from 2024-06-01 to 2099-12-31"
         self.check(
             self.explained_row("units", "U1,NEWCO,P,no,2024-01-01,", "30 UnknownParty", "party NEWCO isn't registered"),
             self.explained_row("units", "U1,GENCO,P,no,2023-12-31,", "33 NotEffective", "party GENCO isn't registered for all dates from 2023-12-31 to 2099-12-31"),
-            self.explained_row("units", "G1,GENCO,P,no,2024-01-02,", "39 ShrinksRange", "the dates from 2024-01-02 to 2099-12-31 don't hold all for which unit G1 is registered"),
-            *(self.explained_row("units", row, "40 UnitMoved", moved) for row in ("G1,SUPCO,P,no,2024-01-01,", "G1,GENCO,C,no,2024-01-01,", "G1,GENCO,P,yes,2024-01-01,")),
+            self.explained_row("units", "G1,GENCO,P,no,2024-01-02,", "39 ShrinksRange", shrinks.format("2024-01-02", "2099-12-31", "G1")),
+            self.explained_row("units", "G1,SUPCO,P,no,2024-02-01,2024-02-29", "39 ShrinksRange", shrinks.format("2024-02-01", "2024-02-29", "G1")),
+            *(
+                self.explained_row("units", f"G1,{party},{side},{mark},2024-01-01,", "40 UnitMoved", moved.format("G1", f"{party}-{side}", "2024-01-01"))
+                for party, side, mark in (("SUPCO", "P", "no"), ("GENCO", "C", "no"), ("GENCO", "P", "yes"))
+            ),
+            part,
+            self.explained_row("units", "G1,SUPCO,C,no,2024-06-01,", "41 LeadIsSubsidiary", is_part),
         )
 
     def test_readings(self):
@@ -749,7 +761,7 @@ class Pipes(Explained):
             ("reallocations", [f"G1,GENCO-P,{DAY},1,1,0"], "37 OwnLead row 1", "the account is the unit's lead account"),
             ("reallocations", [realloc("SUPCO-P", 60), realloc("SUPCO-C", 41)], "38 OverHundred row 2", "more than 100 percent of the unit would be reallocated"),
             ("parties", ["GENCO,2024-02-01,,genco0001"], "39 ShrinksRange row 1", "the registered range of dates would shrink"),
-            ("units", ["G1,SUPCO,P,no,2024-01-01,"], "40 UnitMoved row 1", "the unit is registered with another lead account or mark"),
+            ("units", ["G1,SUPCO,P,no,2024-01-01,"], "40 UnitMoved row 1", "the unit has another mark, or the row's account can't lead it from that date on"),
             ("parties", parties, "42 TooMany row 399", "as many are registered as may be"),
         ):
             found = self.twice(text_of(kind, rows), kind, moment=EARLY)

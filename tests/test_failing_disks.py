@@ -18,7 +18,7 @@ import unittest
 
 from programs import BENCH, HOME, IS_LONG, need
 from test_database import TABLES
-from test_desk import APPLIED, DAY, DEADLINE, DEARER, EARLY, LOADED, MARKET, NEXT_END, OPERATOR, SETTLED, text_of
+from test_desk import APPLIED, DAY, DEADLINE, DEARER, EARLY, LEADS_CHANGE, LOADED, MARKET, NEXT_END, OPERATOR, SETTLED, text_of
 from test_reports import BALANCES, balances
 
 PATIENCE = 120
@@ -33,8 +33,9 @@ FILES = [
     (DEADLINE - 1, "contracts", [f"C1,GENCO-P,SUPCO-C,{DAY},1,98.000"]),
     (EARLY, "contracts", [f"C1,GENCO-P,SUPCO-C,{DAY},1,99.000"]),
     (EARLY, "prices", [f"{DAY},1,60.00000"]),
+    (EARLY, "units", LEADS_CHANGE),
 ]
-ANSWERS = [*LOADED, APPLIED, APPLIED, SETTLED, APPLIED, DEARER]
+ANSWERS = [*LOADED, APPLIED, APPLIED, SETTLED, APPLIED, DEARER, f"applied={len(LEADS_CHANGE)} late=0"]
 TOLD = "".join(f"{answer}\n" for answer in ANSWERS) + BALANCES.replace("38", "45")
 # Which part met a failure: making the office, a request, the balances, or closing it.
 MAKING, ENDING = "making", "ending"
@@ -72,14 +73,16 @@ class FailingDisk(unittest.TestCase):
         self.contents = self.contents_after_each()
 
     def requests(self):
-        """The lines of the script: the market is loaded and settled, and again at a higher price."""
+        """The lines of the script: the market is loaded and settled, and again at a higher price. Then units get a wider range and other
+        lead accounts."""
         lines = []
         for number, (moment, kind, rows) in enumerate(FILES):
             path = self.room / f"f{number}.csv"
             path.write_bytes(text_of(kind, rows))
             lines.append(f"load {moment} {OPERATOR} {kind} {path}\n")
         lines.insert(7, f"run {NEXT_END} {OPERATOR} {DAY} SF\n")
-        return [*lines, f"run {NEXT_END} {OPERATOR} {DAY} R1\n", f"{balances()}\n"]
+        lines.insert(-1, f"run {NEXT_END} {OPERATOR} {DAY} R1\n")
+        return [*lines, f"{balances()}\n"]
 
     def ask(self, database, lines, made=(), **how):
         """What comes of these lines over a file: the status, what is printed, and what is told beside the times."""

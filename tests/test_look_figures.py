@@ -21,7 +21,7 @@ from fractions import Fraction
 
 from looking import Looking, MadeOffice, RandomOffice, changing, look
 from programs import IS_LONG
-from test_desk import DAY
+from test_desk import DAY, MARKET
 from test_settlement import energy
 from test_versions import PRINTED
 from test_worked_periods import FIRST, SECOND, figures, rows_of_files
@@ -391,7 +391,62 @@ class AtRandom(Looking):
         causes = lines[lines.index("Because of") + 1 : lines.index("", lines.index("Because of"))]
         self.assertGreater(len(causes), 3)
         for cause in causes:
-            self.assertRegex(cause, r"\((f7|f8|f9|f10)\.csv row \d\)$|and \d+ more")
+            self.assertRegex(cause, r"\((f7|f8|f9|f10|f11)\.csv row \d\)$|and \d+ more")
+
+
+class Successions(Looking):
+    """A unit that another account leads from the date of a run on, after its first run. The figures are worked out by hand."""
+
+    def setUp(self):
+        super().setUp()
+        self.made = MadeOffice(self.room / "office.db")
+        for kind, rows in (*MARKET, ("parties", ["NEWCO,2024-01-01,,newco0001"])):
+            self.made.load(kind, rows)
+        self.made.run(DAY, "SF")
+        self.name = self.made.load("units", [f"S1,NEWCO,C,no,{DAY},"])
+        self.made.run(DAY, "R1")
+
+    def test_why(self):
+        """98.49 MWh of demand are NEWCO's now, and nobody has sold them to it. It pays 4,924.50 pounds, and 25.12 of the residual."""
+        lines = self.shows("why", "--db", self.made.path, "NEWCO-C", DAY, "R1", 1)
+        self.assertEqual(shown_figures(lines)["credited"], -984_900_000_000)
+        self.assertEqual([number(line.split()[-1]) for line in lines if line.startswith("NEWCO-C pays")], [494_962])
+        self.assertEqual(lines[-1], "All figures follow from the rows of the accepted files.")
+
+    def test_what_the_first_run_used(self):
+        """The row by which SUPCO-C led the unit on the date."""
+        lines = self.shows("why", "--db", self.made.path, "SUPCO-C", DAY, "SF", 1)
+        (since,) = (line for line in lines if line.startswith("  unit S1: "))
+        then, now = "SUPCO-C, 2024-01-01 to 2099-12-31", f"NEWCO-C, {DAY} to 2099-12-31"
+        self.assertEqual(since, f"  unit S1: f2.csv row 2, {then}; then {self.name} row 1, {now}")
+        self.assertEqual(lines[-1], "All figures follow from the rows that SF used.")
+
+    def test_compare(self):
+        """The row is the cause of what changed."""
+        lines = self.shows("compare", "--db", self.made.path, DAY, "SF", "R1")
+        at = lines.index("Because of")
+        self.assertEqual(lines[at + 1], f"  unit S1: SUPCO-C, 2024-01-01 to 2099-12-31 -> NEWCO-C, {DAY} to 2099-12-31 ({self.name} row 1)")
+
+    def test_a_later_succession(self):
+        """It is no cause of anything on the date."""
+        self.made.load("units", ["S1,GENCO,C,no,2024-07-02,"])
+        lines = self.shows("why", "--db", self.made.path, "NEWCO-C", DAY, "R1", 1)
+        self.assertEqual(lines[-1], "All figures follow from the rows of the accepted files.")
+        self.assertFalse([line for line in lines if line.startswith("Since ")])
+
+    def test_registrations(self):
+        """Both are told if they aren't what the files make."""
+        with changing(self.made.path) as made:
+            made.execute("UPDATE leads SET day_to = day_to + 1 WHERE unit = 'S1' AND party = 'SUPCO'")
+            made.execute("DELETE FROM leads WHERE unit = 'S1' AND party = 'NEWCO'")
+        lines = self.shows("why", "--db", self.made.path, "NEWCO-C", DAY, "R1", 1, status=1)
+        self.assertEqual(
+            [line for line in lines if line.startswith("! ")],
+            [
+                "! unit S1 from 2024-01-01: the table leads has SUPCO-C to 2024-07-01, and the files say SUPCO-C to 2024-06-30",
+                "! unit S1 from 2024-07-01: the table leads has nothing, and the files say NEWCO-C to 2099-12-31",
+            ],
+        )
 
 
 class LargeOffice(Looking):

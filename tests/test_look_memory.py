@@ -41,6 +41,10 @@ ROWS = {
         (40, "E_MOOR-1,CITYSUP,P,no,2024-03-01,"),
         (40, "E_MOOR-1,NORTHGEN,P,yes,2024-03-01,"),
         (None, "N-1,CITYSUP,C,yes,2024-06-01,"),
+        (41, "E_MOOR-1,CITYSUP,P,no,2024-06-01,"),
+        (None, "E_MOOR-1,TRADECO,C,no,2025-01-01,"),
+        (39, "E_MOOR-1,TRADECO,C,no,2025-01-02,"),
+        (40, "E_MOOR-1,NORTHGEN,P,no,2025-01-01,"),
     ],
     "meters": [
         (31, f"NONE-1,{DAY},1,1,1,0"),
@@ -149,7 +153,7 @@ class Files(Both):
             self.assertEqual(found, wanted, out)
             self.assertIn(f"Without them the file would be answered applied={len(rows) - len(wanted)} late=0", out)
             seen |= {number for number, _ in rows}
-        self.assertEqual(seen, {None, 13, 14, 30, 31, *range(33, 41)})
+        self.assertEqual(seen, {None, 13, 14, 30, 31, *range(33, 42)})
         self.compare(database)
 
     def test_rows_of_large_tables(self):

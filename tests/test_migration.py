@@ -13,7 +13,7 @@ from programs import settle
 from test_command_faults import NO_FILE, OUTPUT, PATIENCE, STORE, Faults
 from test_commands import answer
 from test_database import OF_VERSION_ONE, TABLES_OF_ONE, VERSION, WITHOUT_POSITIONS, changed_by, content_of, content_of_any, leads_of, rows_of
-from test_desk import APPLIED, END, OPERATOR, SETTLED
+from test_desk import APPLIED, DAY, END, OPERATOR, SETTLED
 from test_explain import NO_OFFICE
 
 DONE = answer(f"version {VERSION}")
@@ -98,6 +98,18 @@ class Answers(OfVersionOne):
         self.assertEqual(rows_of(self.database, "leads"), self.present["leads"])
         for name, words in self.commands.items():
             self.assertEqual(self.command(name, *words, timeout=PATIENCE)[::2], (0, b""), name)
+
+    def test_a_unit_that_changes_its_lead_account_after_it(self):
+        """Also on a date that has a run of version 1. NEWCO-C pays 494,962 pence for the energy that SUPCO-C had bought."""
+        self.assertEqual(self.command("migrate"), DONE)
+        self.answers(self.order("SF", END), SETTLED)
+        changed_by(self.database, *OF_VERSION_ONE)
+        self.assertEqual(self.command("migrate"), DONE)
+        self.answers(self.load("parties", "NEWCO,2024-01-01,,newco0001", "n.csv"), APPLIED)
+        self.answers(self.load("units", f"S1,NEWCO,C,no,{DAY},", "s.csv"), APPLIED)
+        self.answers(self.order("R1"), f"run {DAY} R1 periods 48 accounts 6 residual 5050 postings 2")
+        posted = [row[2:] for row in rows_of(self.database, "postings") if row[1] == 1]
+        self.assertEqual(posted, [("NEWCO", 1, 494_962), ("SUPCO", 1, -494_962)])
 
     def test_without_positions(self):
         """None are written by it. The next command writes them, even if it only asks. Each period of each run then counts as touched, and

@@ -12,8 +12,6 @@ from test_program import OfTheProgram
 
 PAGE = (HOME / "docs/refusals.md").read_text(encoding="utf-8")
 BEFORE, *PARTS = re.split(r"(?m)^### ", PAGE)
-# The one that no request gets.
-NOT_BUILT = 41, "LeadIsSubsidiary"
 OPERATOR = "op-market001"
 KINDS = {header: kind for kind, header in HEADERS.items()}
 CALLS = re.compile(r"\A(?:GET|POST|DELETE) ")
@@ -41,7 +39,7 @@ class ThePage(unittest.TestCase):
     def test_each_refusal_has_a_section(self):
         """The sections of each part of the page are in the order of their numbers."""
         found = [(number, name) for number, name, _ in sections()]
-        self.assertEqual(sorted([*found, NOT_BUILT]), refusals())
+        self.assertEqual(sorted(found), refusals())
         for part in re.split(r"(?m)^## ", PAGE)[1:]:
             numbers = [int(number) for number in re.findall(r"(?m)^### (\d+) ", part)]
             self.assertEqual(numbers, sorted(numbers))

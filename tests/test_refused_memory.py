@@ -15,7 +15,7 @@ import tempfile
 import unittest
 
 from programs import BENCH, SETTLE, need, refusing_library
-from test_desk import DAY, DEADLINE, EARLY, MARKET, NEXT_END, OPERATOR, text_of
+from test_desk import DAY, DEADLINE, EARLY, LEADS_CHANGE, MARKET, NEXT_END, OPERATOR, text_of
 from test_reports import BALANCES, DAY_REPORT, RESULTS
 from test_serving import BAD, GENCO, MOVED, NO_ROUTE, RUNS, SUPCO, refusal, reply, request
 
@@ -67,7 +67,8 @@ def account_body():
 
 CONTRACT = '{"counterparty":"SUPCO-C","mwh":"99.000","period":1,"reference":"C1","role":"seller"}'
 # What is asked of an office, one after the other: each with its moment and its reply. A contract of 98 MWh replaces the
-# market's 99 a second before its deadline, and then one of 99 replaces it.
+# market's 99 a second before its deadline, and then one of 99 replaces it. After the runs a unit gets a wider range, and two get other
+# lead accounts.
 CHANGES = [
     *(
         (loaded(kind, f"f{number}.csv", rows), applied(len(rows)))
@@ -78,6 +79,7 @@ CHANGES = [
     ordered("SF", 5050),
     (loaded("prices", "p2.csv", [f"{DAY},1,60.00000"]), applied(1)),
     ordered("R1", 6060),
+    (loaded("units", "u2.csv", LEADS_CHANGE), applied(len(LEADS_CHANGE))),
 ]
 ENQUIRIES = [
     asked(f"/accounts/GENCO-P/{DAY}", GENCO, reply(200, account_body())),

@@ -244,6 +244,38 @@ class Replies(Served):
         self.assertEqual((body["kind"], body["net_pence"], len(body["periods"])), ("R1", -47_353, 48))
         self.assertEqual((first["credited"], first["charge_pence"], first["share_pence"]), ("10.0000000000", -50_000, 2_647))
 
+    def test_a_unit_that_changes_its_lead_account(self):
+        """Each refusal with its row, and what R1 posts and settles for the account that takes the unit over."""
+        joins = self.load("parties", "NEWCO,2024-01-01,,newco0001", "n.csv")
+        self.serve(8, before=[*self.market(), self.order("SF", END), joins])
+
+        def sends(row, name):
+            return self.ask(request("POST", f"/files/units/{name}", OPERATOR, text_of("units", [row])))
+
+        for row, number, name in (
+            (f"S1,NEWCO,C,no,{DAY},2024-12-31", 39, "ShrinksRange"),
+            ("S1,NEWCO,C,no,2024-01-01,", 40, "UnitMoved"),
+            (f"S1,NEWCO,C,yes,{DAY},", 40, "UnitMoved"),
+        ):
+            self.assertEqual(sends(row, "s.csv"), reply(422, refusal(number, name, behind=',"row":1')))
+        self.assertEqual(sends(f"S1,NEWCO,C,no,{DAY},", "s.csv"), reply(200, '{"applied":1,"late":0}'))
+        self.assertEqual(sends("S1,SUPCO,C,no,2024-01-01,", "t.csv"), reply(422, refusal(40, "UnitMoved", behind=',"row":1')))
+        made = f'{{"accounts":6,"date":"{DAY}","kind":"R1","periods":48,"postings":2,"residual_pence":5050}}'
+        self.assertEqual(self.ask(request("POST", f"/runs/{DAY}/R1", OPERATOR)), reply(200, made))
+        body = json.loads(self.ask(request("GET", f"/accounts/NEWCO-C/{DAY}", "newco0001")).partition(b"\r\n\r\n")[2])
+        first = body["periods"][0]
+        self.assertEqual((body["kind"], body["net_pence"]), ("R1", 494_962))
+        self.assertEqual((first["credited"], first["imbalance"], first["charge_pence"], first["share_pence"]), ("-98.4900000000", "-98.4900000000", 492_450, 2512))
+        moved = '{"account":"SUPCO-C","moved_pence":-495000}'
+        self.assertEqual(self.ask(request("GET", "/balances/SUPCO-C", SUPCO)), reply(200, moved))
+        self.assertEqual(self.rest(), [])
+
+    def test_a_lead_account_that_has_a_part(self):
+        before = [self.load("parties", "NEWCO,2024-01-01,,newco0001", "n.csv"), self.load("reallocations", f"S1,NEWCO-C,{DAY},1,10,0", "r.csv")]
+        self.serve(1, before=[*self.market(), *before])
+        sent = request("POST", "/files/units/s.csv", OPERATOR, text_of("units", [f"S1,NEWCO,C,no,{DAY},"]))
+        self.assertEqual(self.ask(sent), reply(422, refusal(41, "LeadIsSubsidiary", behind=',"row":1')))
+
     def test_an_account(self):
         """By the latest run of the date, R1: figures in period 1 at 60 pounds, and nothing in the others."""
 

@@ -82,6 +82,19 @@ class Questions(unittest.TestCase):
         self.put("credits", (DAY, R1, 1, "G1", "GENCO", P, 1), (DAY + 1, SF, 1, "G1", "GENCO", P, 1))
         self.finds("Each unit's credits of a run", ("G1", "GENCO-P", 5 * MWH // 2, 2.5), ("G1", "SUPCO-C", 7, 0.0))
 
+    def test_who_led_a_unit(self):
+        """The first and the last date of its registrations count, too. Another unit isn't included."""
+        for first, last, found in (
+            (DAY - 9, DAY, ("CITYSUP-C", "2024-06-22", "2024-07-01")),
+            (DAY, DAY, ("CITYSUP-C", "2024-07-01", "2024-07-01")),
+            (DAY, 47_481, ("CITYSUP-C", "2024-07-01", "2099-12-31")),
+            (DAY + 1, DAY + 2, None),
+        ):
+            self.connection.execute("DELETE FROM leads")
+            self.put("leads", ("2__SHOPS", first, "CITYSUP", C, last), ("2__HOMES", DAY, "GENCO", P, DAY))
+            self.put("leads", ("2__SHOPS", first - 9, "GENCO", P, first - 1), ("2__SHOPS", last + 1, "GENCO", P, last + 9))
+            self.finds("Who led a unit on a date", *([found] if found else [("GENCO-P", "2024-06-23", "2024-07-01")]))
+
     def test_postings(self):
         self.put("postings", (DAY, SF, "GENCO", P, 38), (DAY, R1, "SUPCO", C, -7), (DAY, R1, "GENCO", P, 7), (DAY + 1, R1, "GENCO", P, 1))
         self.finds("What R1 posted to whom", ("GENCO-P", 7), ("SUPCO-C", -7))

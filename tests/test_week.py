@@ -108,6 +108,22 @@ def of_the_peer():
     return answers, "".join(peer.answer(line) for line in lines_of("results.script"))
 
 
+@functools.cache
+def of_the_change():
+    """What is told for each line of the change of supplier, what R1 of each date posted, and the balances after it."""
+    peer = Peer()
+    for line in lines_of("week.script"):
+        peer.answer(line)
+    answers, db = [peer.answer(line) for line in lines_of("change.script")], peer.calls["connection"]
+    posted = {}
+    for day, party, side, pence in db.execute("SELECT day, party, side, pence FROM postings WHERE kind = 1"):
+        posted.setdefault(str(datetime.date(1970, 1, 1) + datetime.timedelta(day)), {})[f"{party}-{'PC'[side]}"] = pence
+    moved = dict(((party, side), pence) for party, side, pence in db.execute("SELECT party, side, sum(pence) FROM postings GROUP BY party, side"))
+    parties = [party for (party,) in db.execute("SELECT party FROM parties ORDER BY party")]
+    balances = [f"{party}-{'PC'[side]},{moved.get((party, side), 0)}\n" for party in parties for side in (0, 1)]
+    return answers, posted, "".join(["account,moved_pence\n", *balances])
+
+
 def latest(exports):
     """The rows of exports, without those of a date for which there is a later run."""
     rows = [row for row in csv.DictReader(io.StringIO(exports)) if row["date"] != "date"]
@@ -132,6 +148,8 @@ class Week(unittest.TestCase):
         blocks = BLOCK.findall((HOME / "docs/guide.md").read_text(encoding="utf-8"))
         lines = next(block for block in blocks if "> week.svg" in block).replace("python3", sys.executable)
         cls.drawn = subprocess.run(["sh", "-e", "-c", lines], cwd=cls.room, capture_output=True)
+        cls.changed = settle("script", "--db", "week.db", WEEK + "change.script", cwd=cls.room)
+        cls.after = settle("report", "--db", "week.db", "--key", KEY, "balances", cwd=cls.room)
 
     def setUp(self):
         self.answers, self.exports = of_the_peer()
@@ -155,6 +173,11 @@ class Week(unittest.TestCase):
         wanted = "".join(f"{account},{net}\n" for account, net in nets.items())
         self.assertEqual(self.balances, (0, f"account,moved_pence\n{wanted}".encode(), b""))
         self.assertEqual(sum(nets.values()), 0)
+
+    def test_the_change_of_supplier(self):
+        answers, _, balances = of_the_change()
+        self.assertEqual(self.changed, (0, "".join(answers).encode(), b""))
+        self.assertEqual(self.after, (0, balances.encode(), b""))
 
     def test_the_picture(self):
         """The folder's is drawn again, byte for byte."""
@@ -194,7 +217,7 @@ class Files(unittest.TestCase):
 
     def test_each_file_is_loaded(self):
         """The lines are in the order of their moments."""
-        lines = lines_of("week.script")
+        lines = [*lines_of("week.script"), *lines_of("change.script")]
         loaded = [pathlib.Path(line[-1]).name for line in lines if line[-1].startswith(WEEK)]
         self.assertEqual(sorted(loaded), sorted(path.name for path in (HOME / WEEK).glob("*.csv")))
         moments = [int(line[1]) for line in lines]
@@ -212,6 +235,20 @@ class Files(unittest.TestCase):
         found = re.findall(r"(-?[\d,]+)(?: pence)? to ([A-Z]+-[PC])\b", section)
         told = {account: int(pence.replace(",", "")) for pence, account in found}
         self.assertEqual(told, {account: pence for account, pence in posted.items() if pence})
+
+    def test_the_change_of_supplier(self):
+        """The guide shows the file, what is printed and what R1 of Saturday posts, and the balances, which sum to zero. All that R1 posts
+        sums to zero, too."""
+        answers, posted, balances = of_the_change()
+        guide = (HOME / "docs/guide.md").read_text(encoding="utf-8")
+        (section,) = re.findall(r"^### Changing a supplier$.*?(?=^##)", guide, re.MULTILINE | re.DOTALL)
+        file, script, told, report, after = BLOCK.findall(section)
+        self.assertEqual(file, (HOME / WEEK / "units-shops.csv").read_text(encoding="utf-8"))
+        self.assertEqual((told, after), ("".join(answers), balances))
+        self.assertEqual(sum(int(line.split(",")[1]) for line in balances.splitlines()[1:]), 0)
+        found = re.findall(r"(-?[\d,]+)(?: pence)? to ([A-Z]+-[PC])\b", section)
+        self.assertEqual({account: int(pence.replace(",", "")) for pence, account in found}, posted["2024-10-26"])
+        self.assertEqual({sum(pence.values()) for pence in posted.values()}, {0})
 
     def test_clocks(self):
         """Two of these dates begin at 23:00 UTC, an hour earlier than one in March."""

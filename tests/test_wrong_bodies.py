@@ -25,7 +25,6 @@ BY_HAND = sorted(HOME.glob("crates/*/must-fail-by-hand/*.edit"))
 OFFERED = {
     "check_row", "apply_row", "run_all", "day_of", "day_number", "date_at", "in_pieces", "run_in_new_database",
     "answer", "answer_over",
-    "registered_lead_on",
 }
 # What the language calls without naming it.
 UNNAMED = {"main", "fmt", "cmp", "partial_cmp", "eq", "from", "next", "clone", "drop", "default"}

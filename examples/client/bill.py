@@ -105,10 +105,22 @@ def last_rows(kind, paths, date, *names):
     return {tuple(row[name] for name in names): row for row in rows if row.get("date", date) == date}
 
 
+def holds(row, date):
+    """Whether a unit's row is about a date."""
+    return row["from"] <= date <= (row["to"] or "2099-12-31")
+
+
+def units_of(paths, date):
+    """The last row of each unit that is about a date. It names the unit's lead account on the date. If a unit has no such row, its last
+    row tells whether it is an interconnector's."""
+    rows = [row for path in paths for row in rows_of(HEADERS["units"], path)]
+    return {row["unit"]: row for row in [*rows, *(row for row in rows if holds(row, date))]}
+
+
 def own_files(asked):
     """What the party's files say about a date."""
     return Own(
-        {name: row for (name,), row in last_rows("units", asked.units, asked.date, "unit").items()},
+        units_of(asked.units, asked.date),
         last_rows("readings", asked.readings, asked.date, "unit", "period"),
         last_rows("contracts", asked.contracts, asked.date, "reference", "period"),
         last_rows("prices", asked.prices, asked.date, "period"),
@@ -169,7 +181,7 @@ class Period:
 
     def leads(self, row):
         """Whether the account is the lead account of a unit's row, on this date."""
-        return f"{row['party']}-{row['side']}" == self.account and row["from"] <= self.date <= (row["to"] or "2099-12-31")
+        return f"{row['party']}-{row['side']}" == self.account and holds(row, self.date)
 
     def reading(self, unit):
         found = self.own.readings.get((unit, self.period))

@@ -11,7 +11,7 @@ import itertools
 import re
 
 from . import clock, figures
-from .columns import Held, Keys, alone, cut, shared
+from .columns import Held, Keys, alone, cut, held_of, shared
 from .office import SIDES, account_of
 from .telling import Fault
 
@@ -156,9 +156,43 @@ class Taken:
                 found[period, key] = Entry(self.place, self.name, number, value)
         return found
 
+    @functools.cached_property
+    def registered(self):
+        """The rows of each party or unit, in their order."""
+        found = {}
+        for held, numbers in self.blocks.values():
+            for name, number, value in zip(held.keys.names, numbers, zip(*held.columns)):
+                found.setdefault(name, []).append(Entry(self.place, self.name, number, value))
+        return found
+
     def keys(self):
         """The whole keys of all rows."""
         return [(period, key) for period, (held, _) in self.blocks.items() for key in held.keys.names]
+
+
+def registrations_of(rows):
+    """What rows of a unit make, one after the other: each lead account, and its first and last day. A row with another lead account
+    ends the registration before it, and one with the same takes its place."""
+    found = []
+    for lead, _, first, last in rows:
+        if found and found[-1][0] == lead:
+            found.pop()
+        elif found:
+            found[-1] = (*found[-1][:2], first - 1)
+        found.append((lead, first, last))
+    return found
+
+
+def whole_unit(rows):
+    """What is registered of a unit by its rows: its latest lead account, its mark, and the first and last day of all its range."""
+    lead, mark, _, last = rows[-1]
+    return lead, mark, registrations_of(rows)[0][1], last
+
+
+def holds(value, day):
+    """Whether a party's or unit's row is about a day."""
+    first, last = value[-2:]
+    return first <= day <= last
 
 
 def blocks_of(periods, numbers, names, *columns):
@@ -222,6 +256,9 @@ class Accepted:
 
     def in_force(self, kind, before=None):
         """What is in force after all files, or before the file at a place, by period."""
+        if kind == UNITS:
+            rows = self.rows_of_units(before)
+            return {None: held_of({unit: whole_unit(own) for unit, own in rows.items()})} if rows else {}
         found = {}
         for file in self.files.values():
             if file.kind == kind and (before is None or file.place < before):
@@ -234,6 +271,36 @@ class Accepted:
         for file in reversed(self.files.values()):
             if file.kind == kind and (place is None or file.place <= place) and key in file.entries:
                 return file.entries[key]
+        return None
+
+    def rows_of_units(self, before=None):
+        """The rows of each unit in all files, or before the file at a place, in the order in which they were accepted."""
+        found = {}
+        for file in self.files.values():
+            if file.kind == UNITS and (before is None or file.place < before):
+                for unit, entries in file.registered.items():
+                    found.setdefault(unit, []).extend(entry.value for entry in entries)
+        return found
+
+    def units_of_day(self, before):
+        """The units of the day before the file at a place: their lead accounts, marks and days, by the last row that is about the day."""
+        found = {}
+        for unit, rows in self.rows_of_units(before).items():
+            there = [row for row in rows if holds(row, self.day)]
+            if there:
+                found[unit] = there[-1]
+        return found
+
+    def entry_of_day(self, kind, key, place=None):
+        """The row under a whole key that counts on the day after all files, or after the file at a place. Of a party or unit it is the
+        last whose dates hold the day. None where there is none."""
+        if kind not in REGISTERED:
+            return self.entry(kind, key, place)
+        for file in reversed(self.files.values()):
+            if file.kind == kind and (place is None or file.place <= place):
+                for entry in reversed(file.registered.get(key[1], [])):
+                    if holds(entry.value, self.day):
+                        return entry
         return None
 
     def keys_after(self, place):

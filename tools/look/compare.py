@@ -107,7 +107,7 @@ def rows_between(one, other):
     accepted, places = one.of.accepted, (one.inputs.place, other.inputs.place)
     lines = []
     for kind, key in accepted.keys_after(min(places)):
-        then, now = (accepted.entry(kind, key, place) for place in places)
+        then, now = (accepted.entry_of_day(kind, key, place) for place in places)
         if then != now and one.matters(kind, then, now):
             lines.append((order_of(kind, key), cause(kind, key, then, now)))
     return [line for _, line in sorted(lines)]

@@ -1,5 +1,6 @@
 """What an office in memory needs of an office so that a file gets the same answer. That is what is registered; of references those that
-the file may name; of reallocations those of its dates, since their percentages are summed; and whether the file's name is taken."""
+the file may name; of reallocations those of its dates, since their percentages are summed, or of its units, which may get another lead
+account; and whether the file's name is taken."""
 
 import collections
 import contextlib
@@ -49,6 +50,8 @@ def enough_for(office, folder, kind, name, data):
             small.take(references(office, *those_in(office, "refs", "reference", data, fields_of)), is_late=True)
         if kind == REALLOCATIONS:
             small.take(in_force(office, kind, *those_in(office, kind, "day", data, days_of)))
+        if kind == UNITS:
+            small.take(in_force(office, REALLOCATIONS, *those_in(office, REALLOCATIONS, "unit", data, fields_of)))
         if held:
             small.take_file(kind, name, other_than(data, kind), (0, 0))
     except (Unlike, ValueError, sqlite3.Error):

@@ -45,7 +45,8 @@ class Inputs:
 
     @functools.cached_property
     def units_of_day(self):
-        return {name: unit for name, unit in sorted(self.units.items()) if unit.first <= self.day <= unit.last}
+        """Each with the account that leads it on the day."""
+        return {name: rules.Unit._make(row) for name, row in sorted(self.accepted.units_of_day(self.place + 1).items())}
 
     def given(self, period):
         """The reallocations of a period, by unit and account."""

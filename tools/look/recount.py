@@ -150,16 +150,17 @@ class Recount:
         """The rows that the run used and that have been replaced by others since."""
         accepted, found = self.of.accepted, []
         for kind, key in accepted.keys_after(self.inputs.place):
-            then, now = accepted.entry(kind, key, self.inputs.place), accepted.entry(kind, key)
+            then, now = accepted.entry_of_day(kind, key, self.inputs.place), accepted.entry_of_day(kind, key)
             if self.matters(kind, then, now):
                 found.append(Replaced(kind, key, then, now))
         return sorted(found, key=lambda one: (one.now.place, one.now.row))
 
     def matters(self, kind, then, now):
-        """Whether two rows in force under a key, each of which may be none, say something else of the day."""
-        if kind in OF_DAY:
-            return then is None or now is None or then.value != now.value
-        return is_there(then, self.day) != is_there(now, self.day)
+        """Whether two rows in force under a key, each of which may be none, say something else of the day. Parties and units are there
+        or not, and units have a lead account and a mark."""
+        if then is None or now is None:
+            return then is not now
+        return then.value != now.value if kind in OF_DAY else then.value[:-2] != now.value[:-2]
 
     def weights(self, period):
         """Each account's weight by the run's own credits."""
@@ -205,14 +206,6 @@ class Recount:
     def faults(self):
         """A line for all that doesn't follow."""
         return [*self.of.departures, *map(differs, self.differences)]
-
-
-def is_there(entry, day):
-    """Whether a registered party or unit takes part on a day."""
-    if entry is None:
-        return False
-    first, last = entry.value[-2:]
-    return first <= day <= last
 
 
 def figure_differences(period, kept, follows):

@@ -48,10 +48,15 @@ TERM = date("day_from"), date("day_to")
 FIRST_DAY = "max(one.day_from, other.day_from)"  # on which both parties of a reference take part, if there is one
 SIDE, MARK = Column("%s", "substr('PC', side + 1, 1)"), Column("%s", "CASE interconnector WHEN 0 THEN 'no' ELSE 'yes' END")
 COUNTERPARTIES = account("seller", "seller_side"), account("buyer", "buyer_side")
+# A row for each registration of a unit, in the order of their dates.
+REGISTRATIONS = (
+    "(SELECT unit, leads.party, leads.side, interconnector, leads.day_from, leads.day_to"
+    " FROM leads JOIN units USING (unit) ORDER BY unit, leads.day_from)"
+)
 # The table of each kind, and the columns of its rows.
 TABLES = {
     PARTIES: ("parties", (text("party"), *TERM, text("access_key"))),
-    UNITS: ("units", (text("unit"), text("party"), SIDE, MARK, *TERM)),
+    UNITS: (REGISTRATIONS, (text("unit"), text("party"), SIDE, MARK, *TERM)),
     METERS: ("meters", (text("unit"), DATE, PERIOD, decimal("metered", KWH), decimal("tlm", TLM), decimal("balancing", KWH))),
     PRICES: ("prices", (DATE, PERIOD, decimal("price", PRICE))),
     CONTRACTS: ("contracts JOIN refs USING (reference)", (text("reference"), *COUNTERPARTIES, DATE, PERIOD, decimal("kwh", KWH))),

@@ -1,6 +1,6 @@
 """Whether the tables have what the accepted files say."""
 
-from .accepted import CONTRACTS, METERS, PARTIES, PRICES, REALLOCATIONS, UNITS, cited
+from .accepted import CONTRACTS, METERS, PARTIES, PRICES, REALLOCATIONS, UNITS, cited, registrations_of
 from .beside import sum_of
 from .columns import NOTHING, Held, Keys, held_by_period
 from .inputs import date_or_number, named, valued
@@ -58,15 +58,16 @@ def departures(office, inputs, sums):
         for period in sorted(periods.keys() | inputs.held[kind].keys()):
             one, other = (rows.get(period, NOTHING) for rows in (periods, inputs.held[kind]))
             if not one.is_same(other):
-                lines += [departure(accepted, kind, (period, key), one.values.get(key)) for key in apart(one.values, other.values)]
+                lines += [departure(accepted, kind, (period, key), one.values.get(key), other.values.get(key)) for key in apart(one.values, other.values)]
     return lines
 
 
 def registrations_apart(office, inputs):
-    """A line for each registration that isn't the one of its unit's rows: from the unit's first day to its last. Version 1 keeps none."""
+    """A line for each registration that isn't one of its unit's rows. Version 1 keeps none."""
     if office.version == 1:
         return []
-    kept, wanted = office.registrations(), {(name, unit.first): (unit.lead, unit.last) for name, unit in inputs.units.items()}
+    kept, rows = office.registrations(), inputs.accepted.rows_of_units()
+    wanted = {(unit, first): (lead, last) for unit, own in rows.items() for lead, first, last in registrations_of(own)}
     return [
         f"unit {unit} from {date_or_number(first)}: the table leads has {led(kept, unit, first)}, and the files say {led(wanted, unit, first)}"
         for unit, first in apart(kept, wanted)
@@ -86,8 +87,9 @@ def apart(one, other):
     return sorted((key for key in one.keys() | other.keys() if one.get(key) != other.get(key)), key=str)
 
 
-def departure(accepted, kind, key, value):
-    """What a table has under a key, and what the files say."""
+def departure(accepted, kind, key, value, follows):
+    """What a table has under a key, and what the files say. Of a unit several rows may say it together."""
     entry = accepted.entry(kind, key)
-    told = f"{cited(entry)} says {valued(kind, entry.value)}" if entry else "no accepted file says so"
+    says = f"{cited(entry)} says" if entry and entry.value == follows else "the files say"
+    told = f"{says} {valued(kind, follows)}" if entry else "no accepted file says so"
     return f"{named(kind, key)}: the table {kind} has {valued(kind, value)}, and {told}"

@@ -76,7 +76,7 @@ class OfPeriod:
     def unit_lines(self, unit):
         """What the account is credited from a unit."""
         reading, ticks = self.inputs.reading(self.period, unit), self.credits[unit]
-        registered = self.inputs.units.get(unit)
+        registered = self.inputs.units_of_day.get(unit)
         mark = ", an interconnector's" if registered and registered.is_interconnector else ""
         if reading is None or registered is None:
             return [item(f"  {unit}, of which no reading was accepted", mwh(ticks))]

@@ -7,7 +7,7 @@ use crate::ways::ROOM;
 use hh_devices::MemorySink;
 use hh_names::{Account, Side};
 use hh_requests::{Action, Upload};
-use hh_rows::Row;
+use hh_rows::{Row, UnitRow};
 use hh_rules::Register;
 use hh_runs::RunKey;
 use hh_store::Tables;
@@ -93,7 +93,7 @@ fn tell_rows(register: &Register, rows: &[Row], text: &mut Vec<u8>) -> Result<()
 fn tell_row(register: &Register, row: &Row, text: &mut Vec<u8>) -> Result<(), AllocError> {
     match row {
         Row::Party(row) => tell(text, &register.party(&row.party)),
-        Row::Unit(row) => tell(text, &register.unit(&row.unit)),
+        Row::Unit(row) => tell_unit(register, row, text),
         Row::Meter(row) => tell(text, &register.reading(&row.key)),
         Row::Price(row) => tell(text, &register.price(&row.at)),
         Row::Contract(row) => {
@@ -102,6 +102,14 @@ fn tell_row(register: &Register, row: &Row, text: &mut Vec<u8>) -> Result<(), Al
         }
         Row::Reallocation(row) => tell(text, &register.reallocation(&row.key)),
     }
+}
+
+/// Appends what a register tells about a unit, and who leads it on the first and the last of a row's dates.
+fn tell_unit(register: &Register, row: &UnitRow, text: &mut Vec<u8>) -> Result<(), AllocError> {
+    let (from, to) = row.registration.range.ends();
+    tell(text, &register.unit(&row.unit))?;
+    tell(text, &register.lead_on(&row.unit, from))?;
+    tell(text, &register.lead_on(&row.unit, to))
 }
 
 /// Appends what they tell about a row's party, if it is of one: its key, and its accounts' postings.

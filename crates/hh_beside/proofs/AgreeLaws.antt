@@ -31,7 +31,7 @@ alike_agrees content these those alike right accounted =
 pub loads_agree : LoadsAgree
 loads_agree midnight s load beside after reached can agreed alike =
     let parts = and_parts _ _ agreed in
-    alike_agrees (tables_of midnight (after_load midnight s load)) after (beside_with_load (load_change midnight s load) (tables_of midnight s).registered beside) alike
+    alike_agrees (tables_of midnight (after_load midnight s load)) after (beside_with_load (load_change midnight s load) (tables_of midnight s) beside) alike
     (loads_keep_positions midnight s load beside.positions reached can parts.0)
     (accounted_for_after_loads midnight s load beside.touched reached can parts.1)
 

@@ -16,8 +16,7 @@ use Rattle.hh_runs.specs.declared.summary.Summary.{Summary}
 use Rattle.hh_states.specs.Content.{Content}
 use Rattle.hh_states.specs.DaySettlement.{from_one_to, periods_on}
 use Rattle.hh_states.specs.PeriodSettlement.{settled, terms_at}
-use Rattle.hh_states.specs.Runs.{last_of}
-use Rattle.hh_state_laws.proofs.ApartLaws.{all-before-map, all-filter, all-weaken}
+use Rattle.hh_state_laws.proofs.ApartLaws.{all-before-map, all-filter, all-weaken, holds_of_last}
 use Rattle.hh_state_laws.proofs.RisingLaws.{filter-passes}
 use Rattle.hh_states.specs.Beside.{are_days_accounted_for, is_among, is_day_accounted_for, is_accounted_for, is_still, latest_on, period_of_run, terms_for}
 use Rattle.hh_beside.specs.DayLaws.{HaveTheSame, UntouchedIsSettled}
@@ -25,15 +24,6 @@ use Rattle.hh_beside.specs.Keeping.{periods_of_runs}
 use Rattle.hh_beside.proofs.DayTests.{tells_periods}
 
 module _ {X : Type 0} where
-  -- if all elements have a property, so has the last
-  pub holds_of_last : (P : X → Type 0) (xs : List X) (x : X) → AllByRecursion P xs → last_of xs ≡ Some x → P x
-  holds_of_last P [] x all is = cc
-  holds_of_last P (y ∷ []) x all is = subst P (same_one y x is) all.0
-    where
-      same_one : (y x : X) → Some y ≡ Some x → y ≡ x
-      same_one y x is = cc
-  holds_of_last P (y ∷ z ∷ xs) x all is = holds_of_last P (z ∷ xs) x all.1 is
-
   module _ (test : X → Bool) where
     -- if all pass, each passes
     pub each_passes : (xs : List X) → list_all test xs ≡ true → AllByRecursion (λ x. test x ≡ true) xs
@@ -158,7 +148,7 @@ among_second [] those at is = is
 among_second (p ∷ these) those at is = or_right (eq_by_cmp settlement_period_cmp p at) (is_among (these ++ those) at) (among_second these those at is)
 
 -- each period of a list is among the list
-each_among : (ps : List SettlementPeriod) → AllByRecursion (λ at. is_among ps at ≡ true) ps
+pub each_among : (ps : List SettlementPeriod) → AllByRecursion (λ at. is_among ps at ≡ true) ps
 each_among [] = tt
 each_among (p ∷ ps) = (
   or_left (eq_by_cmp settlement_period_cmp p p) (is_among ps p) ((eq_by_cmp_equiv settlement_period_total).refl p),

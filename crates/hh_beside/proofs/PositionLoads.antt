@@ -32,7 +32,8 @@ use Rattle.hh_rules.specs.declared.positions.PositionKey.{PositionKey}
 use Rattle.hh_rules.proofs.HistoryLaws.{looks_back}
 use Rattle.hh_runs.specs.declared.run_key.RunKey.{RunKey}
 use Rattle.hh_states.specs.Steps.{CanLoad, IsReached, Load, after_load, after_run, rows_coming, timetable_at}
-use Rattle.hh_state_laws.proofs.ConsistentLaws.{none_met, reached_consistent}
+use Rattle.hh_successions.proofs.LookBackLaws.{none_met}
+use Rattle.hh_state_laws.proofs.ConsistentLaws.{reached_consistent}
 use Rattle.hh_state_laws.proofs.PutLaws.{keys-put}
 use Rattle.hh_states.specs.Beside.{are_positions_right, net_position}
 use Rattle.hh_states.specs.Changes.{load_change}

@@ -1,14 +1,16 @@
 -- What a load and a run change in what is kept beside the tables, and what is first kept beside tables that had nothing beside them.
-use Rattle.std.specs.Prelude.{◌==◌, ℤ, List, [], ◌∷◌, ◌++◌, filter, filter_map, not, Option, Some, None, option_map}
+use Rattle.std.specs.Prelude.{ℕ, ◌==◌, ℤ, List, [], ◌∷◌, ◌++◌, filter, filter_map, Bool, not, Option, Some, None, option_map}
 use Rattle.std.specs.FinMap.{find, put}
-use Rattle.std.specs.List.{flat_map}
+use Rattle.std.specs.List.{flat_map, list_any}
 use Rattle.hh_tables.specs.Tables.{Table}
+use Rattle.hh_rows.specs.DateRanges.{Range, holds}
 use Rattle.hh_rows.specs.Keys.{contract_key_cmp}
 use Rattle.hh_rows.specs.declared.keys.ContractKey.{ContractKey}
 use Rattle.hh_rows.specs.declared.rows.ContractRow.{ContractRow}
 use Rattle.hh_rows.specs.declared.rows.Row.{Row}
 use Rattle.hh_rows.specs.declared.rows.Row.TheVariants as row
 use Rattle.hh_rows.specs.declared.settlement_period.SettlementPeriod.{SettlementPeriod}
+use Rattle.hh_registrations.specs.Registrations.{Leads, succession_ranges}
 use Rattle.hh_rules.specs.History.{Registered}
 use Rattle.hh_rules.specs.Positions.{with_replaced}
 use Rattle.hh_rules.specs.declared.positions.Position.{Position}
@@ -21,7 +23,7 @@ use Rattle.hh_states.specs.DaySettlement.{periods_on}
 use Rattle.hh_states.specs.PeriodSettlement.{row_in_force}
 use Rattle.hh_states.specs.Beside.{Beside}
 
--- the Settlement Period that a row in time touches, if it touches one; registrations touch none
+-- the Settlement Period that a row in time touches by itself, if it touches one
 abbrev pub touched_by : Row → Option SettlementPeriod
 touched_by (row.Party r) = None
 touched_by (row.Unit r) = None
@@ -41,11 +43,23 @@ positions_with (row.Contract r ∷ rows) volumes positions =
     positions_with rows (put contract_key_cmp r.key r.contract.volume volumes) (with_replaced (replaced_by r volumes) r positions)
 positions_with (_ ∷ rows) volumes positions = positions_with rows volumes positions
 
+-- one of these ranges holds the date
+abbrev pub is_held : List Range → ℕ → Bool
+is_held ranges date = list_any (λ r. holds r date) ranges
+
+-- each Settlement Period of these runs
+abbrev pub periods_of_runs : Table RunKey Summary → List SettlementPeriod
+periods_of_runs runs = flat_map (λ e. periods_on e.0.date e.1.periods) runs
+
+-- the Settlement Periods that the successions among rows touch: all periods of those of their dates that have a run
+abbrev pub touched_by_successions : List Row → Leads → Table RunKey Summary → List SettlementPeriod
+touched_by_successions rows leads runs = periods_of_runs (filter (λ e. is_held (succession_ranges rows leads) e.0.date) runs)
+
 -- what is kept after a load
-abbrev pub beside_with_load : LoadChangeView → Registered → Beside → Beside
-beside_with_load w tables beside = record {
-  positions = positions_with w.rows tables.contracts beside.positions;
-  touched = filter_map touched_by w.rows ++ beside.touched;
+abbrev pub beside_with_load : LoadChangeView → Content → Beside → Beside
+beside_with_load w content beside = record {
+  positions = positions_with w.rows content.registered.contracts beside.positions;
+  touched = filter_map touched_by w.rows ++ (touched_by_successions w.rows content.registered.leads content.runs ++ beside.touched);
 }
 
 -- what is kept after a run: no period of its date is touched
@@ -60,10 +74,6 @@ positions_of (r ∷ rows) positions = positions_of rows (with_replaced None r po
 -- the positions by all contracts in force
 abbrev pub positions_by : Registered → Table PositionKey Position
 positions_by tables = positions_of (filter_map (row_in_force tables) tables.contracts) []
-
--- each Settlement Period of these runs
-abbrev pub periods_of_runs : Table RunKey Summary → List SettlementPeriod
-periods_of_runs runs = flat_map (λ e. periods_on e.0.date e.1.periods) runs
 
 -- what is first kept beside tables: the positions by all contracts in force, and each Settlement Period of each run as
 -- touched

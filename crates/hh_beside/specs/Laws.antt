@@ -18,7 +18,7 @@ AreAlike these those = (these.positions ≡ those.positions) × HaveTheSame thes
 abbrev pub LoadsAgree : Type 0
 LoadsAgree = (midnight : Midnights) (s : State) (load : Load) (beside after : Beside) → IsReached midnight s
     → CanLoad midnight s load → IsTrue (agrees (tables_of midnight s) beside)
-    → AreAlike after (beside_with_load (load_change midnight s load) (tables_of midnight s).registered beside)
+    → AreAlike after (beside_with_load (load_change midnight s load) (tables_of midnight s) beside)
     → IsTrue (agrees (tables_of midnight (after_load midnight s load)) after)
 
 -- and still does after a run that it makes

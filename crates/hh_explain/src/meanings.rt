@@ -43,8 +43,10 @@ pub fn refused(fault: &Fault) -> &'static str {
         Refusal::OwnLead => "the account is the unit's lead account",
         Refusal::OverHundred => "more than 100 percent of the unit would be reallocated",
         Refusal::ShrinksRange => "the registered range of dates would shrink",
-        Refusal::UnitMoved => "the unit is registered with another lead account or mark",
-        Refusal::LeadIsSubsidiary => "the lead account is a subsidiary of the unit",
+        Refusal::UnitMoved => {
+            "the unit has another mark, or the row's account can't lead it from that date on"
+        }
+        Refusal::LeadIsSubsidiary => "the row's lead account has a part of the unit in force",
         Refusal::TooMany => "as many are registered as may be",
         Refusal::RunOrder => "the date has a later kind of run already",
         Refusal::NoInitialRun => "the date has no run, and its first is SF",

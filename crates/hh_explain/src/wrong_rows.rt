@@ -52,7 +52,8 @@ fn write_unit<W: fmt::Write>(
     row: &UnitRow,
     fault: &Fault,
 ) -> fmt::Result {
-    let (unit, party) = (row.unit.as_str(), row.registration.lead.party.as_str());
+    let (unit, lead) = (row.unit.as_str(), row.registration.lead);
+    let party = lead.party.as_str();
     let (from, to) = row.registration.range.ends();
     let (from, to) = (DateText(from), DateText(to));
     match fault.refusal {
@@ -65,11 +66,18 @@ fn write_unit<W: fmt::Write>(
         }
         Refusal::ShrinksRange => write!(
             f,
-            "the dates from {from} to {to} don't hold all for which unit {unit} is registered"
+            "the dates from {from} to {to} leave out the last ones of unit {unit}, or the first \
+             ones of its last lead account"
         ),
         Refusal::UnitMoved => write!(
             f,
-            "unit {unit} is registered with another party, side or interconnector mark"
+            "unit {unit} has another interconnector mark, or {lead} can't lead it from {from} on: \
+             a lead account begins later than the one before it, and leaves out no day"
+        ),
+        Refusal::LeadIsSubsidiary => write!(
+            f,
+            "a reallocation in force gives a part of unit {unit} to {lead} on a date from {from} \
+             to {to}"
         ),
         Refusal::TooMany => write!(f, "unit {unit} is new, and there are 2000 units already"),
         _ => f.write_str(refused(fault)),

@@ -6,6 +6,7 @@ use Rattle.std.specs.Ordering.{eq_by_cmp}
 use Rattle.std.proofs.lemmas.Bool.{and_parts}
 use Rattle.std.proofs.lemmas.List.Elements.{recursion_from_All}
 use Rattle.hh_num.proofs.TotalLaws.{total-map}
+use Rattle.hh_tables.proofs.FilterLaws.{filter_within}
 use Rattle.hh_names.specs.declared.account.Account.{Account}
 use Rattle.hh_rows.specs.declared.rows.ContractRow.{ContractRow}
 use Rattle.hh_rows.specs.declared.settlement_period.SettlementPeriod.{SettlementPeriod}
@@ -31,7 +32,7 @@ use Rattle.hh_beside.proofs.PositionLoads.{known_is_net}
 use Rattle.hh_kept_rows.specs.DayBeside.{IsBesideOf, IsNetBeside, IsSameAs, IsStateBeside, ReadByWhatIsBeside, result_beside}
 use Rattle.hh_kept_rows.specs.DayRows.{HasRowsOn}
 use Rattle.hh_settled_periods.specs.declared.day_beside.DayBeside.{DayBeside}
-use Rattle.hh_kept_rows.proofs.DayRowLaws.{filter_kept, settled_alike, terms_alike}
+use Rattle.hh_kept_rows.proofs.DayRowLaws.{settled_alike, terms_alike}
 
 -- a known position is its volume
 known_volume : (p : Position) → is_known p ≡ true → p ≡ Known (volume_in p)
@@ -81,8 +82,8 @@ module _ (content : Content) (beside : Beside) (agree : agrees content beside �
       (λ i. settled_as (map (λ e. e.1) (filter (is_result_of run period) (is.results (run, summary) latest i)))
       (map credit_row (filter (is_credit_of run period) (is.credits (run, summary) latest i))))
       ∙ (λ i. settled_as
-      (map (λ e. e.1) (filter_kept (λ e. eq_by_cmp run_key_cmp e.0.run run) (is_result_of run period) content.results (λ e h. (and_parts _ _ h).0) i))
-      (map credit_row (filter_kept (λ e. eq_by_cmp run_key_cmp e.0.run run) (is_credit_of run period) content.credits (λ e h. (and_parts _ _ h).0) i)))
+      (map (λ e. e.1) (filter_within (is_result_of run period) (λ e. eq_by_cmp run_key_cmp e.0.run run) (λ e h. (and_parts _ _ h).0) content.results i))
+      (map credit_row (filter_within (is_credit_of run period) (λ e. eq_by_cmp run_key_cmp e.0.run run) (λ e h. (and_parts _ _ h).0) content.credits i)))
 
   is_settled : (o : Option (RunKey × Summary)) (s : Settled) → latest_on content at.date ≡ o → IsSameAs part held at o s → IsStateOf (terms_at whole at) (Same s)
   is_settled None s latest same = absurd same

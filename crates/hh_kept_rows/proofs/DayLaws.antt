@@ -1,6 +1,6 @@
 -- What a Settlement Day is settled from, found by going through the tables.
 use Rattle.std.proofs.Common.{◌≡◌, ℕ, zero, suc, ◌+◌, ◌<◌, List, [], ◌∷◌, ◌++◌, map, length, take, get_or, refl, sym, ap, ◌∙◌, Bool, true, false, cond, Some, None, arith}
-use Rattle.std.specs.Prelude.{ℤ, ◌&&◌, ◌==◌, All, filter, filter_map, find, option_map}
+use Rattle.std.specs.Prelude.{ℤ, ◌&&◌, ◌==◌, All, Option, filter, filter_map, find, option_map, unwrap_or}
 use Rattle.std.specs.FinMap.{find as entry_at}
 use Rattle.std.specs.List.{AllByRecursion, cons_option, flat_map}
 use Rattle.std.specs.Option.{option_or}
@@ -8,16 +8,22 @@ use Rattle.std.specs.Ordering.{eq_by_cmp}
 use Rattle.std.proofs.lemmas.List.{take_more}
 use Rattle.std.proofs.lemmas.List.Concat.{flat_map-append}
 use Rattle.std.proofs.lemmas.List.Elements.{All-from_recursion, All-map}
+use Rattle.hh_names.specs.declared.account.Account.{Account}
 use Rattle.hh_names.specs.declared.values.Counterparties.{Counterparties}
 use Rattle.hh_names.specs.Accounts.{bytes_cmp}
 use Rattle.hh_rows.specs.Keys.{settlement_period_cmp}
 use Rattle.hh_rows.specs.declared.keys.ContractKey.{ContractKey}
+use Rattle.hh_rows.specs.declared.keys.UnitPeriod.{UnitPeriod}
 use Rattle.hh_rows.specs.declared.rows.ContractRow.{ContractRow}
+use Rattle.hh_rows.specs.declared.rows.UnitRegistration.{UnitRegistration}
 use Rattle.hh_rows.specs.declared.settlement_period.SettlementPeriod.{SettlementPeriod}
+use Rattle.hh_registrations.specs.Registrations.{registered_lead_on}
 use Rattle.hh_rules.specs.History.{Registered}
+use Rattle.hh_rules.specs.Leads.{lead_on, registered_units}
+use Rattle.hh_calc.specs.Terms.{unit_data}
 use Rattle.hh_states.specs.DaySettlement.{from_one_to, periods_on}
-use Rattle.hh_states.specs.PeriodSettlement.{row_in_force, rows_in_force}
-use Rattle.hh_kept_rows.specs.steps.DayRolls.{row_on}
+use Rattle.hh_states.specs.PeriodSettlement.{reading_of, row_in_force, rows_in_force, subsidiaries_of, unit_at}
+use Rattle.hh_kept_rows.specs.steps.DayRolls.{AreLedOn, led_on, row_on}
 use Rattle.hh_kept_rows.specs.steps.KeptContracts.{is_in_period}
 use Rattle.hh_kept_rows.proofs.ContractLaws.{same_period}
 
@@ -101,6 +107,37 @@ all_on_date P date count h = All-map (λ at. P at.date) (λ p. record { date = d
         each_of : (ps : List ℕ) → AllByRecursion (λ p. P date) ps
         each_of [] = tt
         each_of (p ∷ ps) = (h, each_of ps)
+
+-- ---- units with their lead accounts of a date
+
+-- a unit that has its lead account of a date is led by it there
+led_again : (tables : Registered) (date : ℕ) (u : List ℕ × UnitRegistration) → lead_on tables u.0 (led_on tables date u).1 date ≡ lead_on tables u.0 u.1 date
+led_again tables date u = by_lead (registered_lead_on (registered_units tables) u.0 date)
+  where
+    by_lead : (o : Option Account) → unwrap_or o (unwrap_or o u.1.lead) ≡ unwrap_or o u.1.lead
+    by_lead None = refl
+    by_lead (Some lead) = refl
+
+pub are_led : (tables : Registered) (date : ℕ) (us : List (List ℕ × UnitRegistration)) → AreLedOn tables date (map (led_on tables date) us)
+are_led tables date us = All-from_recursion (λ u. u.1.lead ≡ lead_on tables u.0 u.1 date) (map (led_on tables date) us) (each us)
+  where
+    each : (vs : List (List ℕ × UnitRegistration)) → AllByRecursion (λ u. u.1.lead ≡ lead_on tables u.0 u.1 date) (map (led_on tables date) vs)
+    each [] = tt
+    each (u ∷ vs) = (sym (led_again tables date u), each vs)
+
+-- and it is settled from the same
+pub units_led : (tables : Registered) (at : SettlementPeriod) (us : List (List ℕ × UnitRegistration))
+    → filter_map (unit_at tables at) (map (led_on tables at.date) us) ≡ filter_map (unit_at tables at) us
+units_led tables at [] = refl
+units_led tables at (u ∷ us) = λ i.
+    cons_option (option_map (λ reading. unit_data u.0 (led_again tables at.date u i) u.1.interconnector reading (subsidiaries_of tables (record { unit = u.0; at = at })))
+    (reading_of tables (record { unit = u.0; at = at }))) (units_led tables at us i)
+
+-- their Settlement Periods are those of the units
+pub periods_led : (tables : Registered) (at : SettlementPeriod) (us : List (List ℕ × UnitRegistration))
+    → map (λ e. record { unit = e.0; at = at }) (map (led_on tables at.date) us) ≡ map {B = UnitPeriod} (λ e. record { unit = e.0; at = at }) us
+periods_led tables at [] = refl
+periods_led tables at (u ∷ us) = ap (λ keys. record { unit = u.0; at = at } ∷ keys) (periods_led tables at us)
 
 -- the rows of a Settlement Period are those of its date that have its number
 module _ (tables : Registered) (at : SettlementPeriod) where

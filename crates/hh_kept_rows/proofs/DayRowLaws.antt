@@ -17,7 +17,7 @@ use Rattle.hh_rows.specs.declared.keys.UnitPeriod.{UnitPeriod}
 use Rattle.hh_rows.specs.declared.rows.UnitRegistration.{UnitRegistration}
 use Rattle.hh_rows.specs.declared.settlement_period.SettlementPeriod.{SettlementPeriod}
 use Rattle.hh_rules.specs.History.{Registered}
-use Rattle.hh_rules.specs.Leads.{lead_on}
+use Rattle.hh_registrations.specs.Registrations.{registered_lead_on}
 use Rattle.hh_rules.specs.RegisterView.{AgreesOn}
 use Rattle.hh_rows.specs.declared.rows.Row.{Row}
 use Rattle.hh_rows.specs.declared.rows.Row.TheVariants as row
@@ -112,7 +112,7 @@ module _ (date : ℕ) (whole part : Registered) (has : HasRowsOn date whole part
 
     unit_alike : (u : List ℕ × UnitRegistration) → AgreesOnUnitAt whole part u.0 at → unit_at part at u ≡ unit_at whole at u
     unit_alike u agrees =
-        λ i. option_map (λ (reading : Reading). unit_data u.0 (lead_on whole u.0 u.1 at.date) u.1.interconnector reading (map (λ e. record { account = e.0.account; reallocation = e.1 }) (agrees.reallocations i))) (agrees.reading i)
+        λ i. option_map (λ (reading : Reading). unit_data u.0 (unwrap_or (registered_lead_on (record { units = has.units i; leads = has.leads i }) u.0 at.date) u.1.lead) u.1.interconnector reading (map (λ e. record { account = e.0.account; reallocation = e.1 }) (agrees.reallocations i))) (agrees.reading i)
 
     pub terms_alike : terms_at part at ≡ terms_at whole at
     terms_alike =
@@ -147,26 +147,10 @@ settled_alike date whole part has = record {
   terms = terms_alike date whole part has;
 }
 
-true_is_not_false : true ≡ false → ⊥
-true_is_not_false e = cc
-
--- the rows that pass a test are the same among the rows that are kept, if each of them is kept
-pub filter_kept : {X : Type 0} (keeps test : X → Bool) (xs : List X) → ((x : X) → test x ≡ true → keeps x ≡ true) → filter test (filter keeps xs) ≡ filter test xs
-filter_kept keeps test [] kept = refl
-filter_kept keeps test (x ∷ xs) kept =
-    let rest = filter_kept keeps test xs kept in
-    elim (keeps x) as (λ b. keeps x ≡ b → filter test (cond b (x ∷ filter keeps xs) (filter keeps xs)) ≡ cond (test x) (x ∷ filter test xs) (filter test xs)) [
-      | true ↦ λ stays. ap (λ l. cond (test x) (x ∷ l) l) rest
-      | false ↦ λ goes. elim (test x) as (λ t. test x ≡ t → filter test (filter keeps xs) ≡ cond t (x ∷ filter test xs) (filter test xs)) [
-        | true ↦ λ passes. absurd (true_is_not_false (sym (kept x passes) ∙ goes))
-        | false ↦ λ fails. rest
-      ] refl
-    ] refl
-
 -- if the first agrees with the second and the second with the third, the first agrees with the third
 agrees_through : (whole middle part : Registered) (r : Row) → AgreesOn whole middle r → AgreesOn middle part r → AgreesOn whole part r
 agrees_through whole middle part (row.Party r) a b = b ∙ a
-agrees_through whole middle part (row.Unit r) (party, unit, leads) (party', unit', leads') = (party' ∙ party, unit' ∙ unit, leads' ∙ leads)
+agrees_through whole middle part (row.Unit r) (party, unit, rows, leads) (party', unit', rows', leads') = (party' ∙ party, unit' ∙ unit, rows' ∙ rows, leads' ∙ leads)
 agrees_through whole middle part (row.Meter r) (unit, reading, leads) (unit', reading', leads') = (unit' ∙ unit, reading' ∙ reading, leads' ∙ leads)
 agrees_through whole middle part (row.Price r) a b = b ∙ a
 agrees_through whole middle part (row.Contract r) (seller, buyer, reference, volume) (seller', buyer', reference', volume') =

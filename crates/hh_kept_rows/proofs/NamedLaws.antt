@@ -1,6 +1,6 @@
 -- The reallocations of the units in the Settlement Periods that rows name; and a part that has them serves for the rows.
 use Rattle.std.proofs.Common.{◌≡◌, ℕ, zero, suc, ◌+◌, ◌<◌, List, [], ◌∷◌, ◌++◌, length, take, get_or, refl, sym, ap, subst, ◌∙◌, Bool, true, false, cond, Ordering, append_assoc}
-use Rattle.std.specs.Prelude.{◌≢◌, filter, T}
+use Rattle.std.specs.Prelude.{filter, T}
 use Rattle.std.specs.BTreeMap.{is_at}
 use Rattle.std.specs.BTreeSet.{BTreeSet, Updates, contains}
 use Rattle.std.specs.Cmp.{IsTotalOrder, Equal-is}
@@ -9,24 +9,28 @@ use Rattle.std.specs.FinMap.Entries.{below_all, by_order}
 use Rattle.std.specs.List.{All, list_any}
 use Rattle.std.specs.Ordering.{eq_by_cmp, is_lt, ordering_reverse}
 use Rattle.std.specs.declared.cmp.Ordering.TheVariants.{Greater}
+use Rattle.std.proofs.lemmas.Bool.{or_left, or_right}
 use Rattle.std.proofs.lemmas.List.{append-nil}
+use Rattle.std.proofs.lemmas.Map.Lookups.{exact_bytes}
 use Rattle.std.proofs.lemmas.List.Folds.{list_any_at}
 use Rattle.std.proofs.lemmas.List.Elements.{All-more, All-weaker, filter_more}
 use Rattle.hh_tables.specs.Tables.{IsTable, Table, put_all}
+use Rattle.hh_tables.proofs.FilterLaws.{filter_within}
 use Rattle.hh_tables.proofs.MergeLaws.{from_true, put_all-append, put_all_is_table}
 use Rattle.hh_tables.proofs.RowLaws.{both, first, less, second, sorted-filter}
 use Rattle.hh_names.specs.declared.values.Reallocation.{Reallocation}
+use Rattle.hh_names.specs.Accounts.{bytes_cmp}
 use Rattle.hh_rows.specs.Keys.{reallocation_key_cmp, unit_period_cmp}
 use Rattle.hh_rows.specs.declared.keys.ReallocationKey.{ReallocationKey}
 use Rattle.hh_rows.specs.declared.keys.UnitPeriod.{UnitPeriod}
-use Rattle.hh_rows.specs.declared.rows.ReallocationRow.{ReallocationRow}
 use Rattle.hh_rows.specs.declared.rows.Row.{Row}
 use Rattle.hh_rows.specs.declared.rows.Row.TheVariants as row
 use Rattle.hh_rows.proofs.KeyLaws.{exact_unit_periods, reallocation_key_total}
 use Rattle.hh_rules.specs.History.{Leads, Registered}
-use Rattle.hh_rules.specs.RegisterView.{AgreesOn, RegisterView, ServesFor, holding_leads, holding_reallocation, reallocations_at, tables_in}
+use Rattle.hh_rules.specs.RegisterView.{AgreesOn, RegisterView, ServesFor, holding_leads, holding_reallocation, reallocations_at, reallocations_of, tables_in}
 use Rattle.hh_kept_rows.specs.Parts.{leads_for, names_unit, whole_of}
-use Rattle.hh_kept_rows.specs.steps.Parts.{AgreesOnNames, Grows, IsNamedIn, IsPartOf, is_named_in, with_reallocations}
+use Rattle.hh_kept_rows.specs.declared.named_units.NamedUnits.{NamedUnits}
+use Rattle.hh_kept_rows.specs.steps.Parts.{AgreesOnNames, Grows, IsNamedIn, IsPartOf, KeepsNames, is_named_in, with_reallocations}
 use Rattle.hh_kept_rows.proofs.PartLaws.{names_grown}
 
 module _ {K V : Type 0} (R : K → K → Ordering) where
@@ -61,26 +65,11 @@ module _ {K V : Type 0} {R : K → K → Ordering} (o : IsTotalOrder R) where
       ∙ put_all_behind es (front ++ e ∷ []) (subst (λ l. T (is_sorted R l)) (sym (append_assoc front (e ∷ []) es)) h)
       ∙ append_assoc front (e ∷ []) es
 
--- the elements that pass a test are the same among those that pass a wider test
-filter_within : {X : Type 0} (test wider : X → Bool) → ((x : X) → test x ≡ true → wider x ≡ true) → (xs : List X) → filter test (filter wider xs) ≡ filter test xs
-filter_within test wider within [] = refl
-filter_within test wider within (x ∷ xs) =
-    let rest = filter_within test wider within xs in
-    elim (test x) as (λ b. test x ≡ b → filter test (cond (wider x) (x ∷ filter wider xs) (filter wider xs)) ≡ cond b (x ∷ filter test xs) (filter test xs)) [
-      | true ↦ λ passes. ap (λ b. filter test (cond b (x ∷ filter wider xs) (filter wider xs))) (within x passes)
-          ∙ ap (λ b. cond b (x ∷ filter test (filter wider xs)) (filter test (filter wider xs))) passes
-          ∙ ap (λ l. x ∷ l) rest
-      | false ↦ λ fails. elim (wider x) as (λ w. filter test (cond w (x ∷ filter wider xs) (filter wider xs)) ≡ filter test xs) [
-        | true ↦ ap (λ b. cond b (x ∷ filter test (filter wider xs)) (filter test (filter wider xs))) fails ∙ rest
-        | false ↦ rest
-      ]
-    ] refl
-
 -- if a row names a unit, all registrations are held
 pub leads_held : (rows : List Row) (k : ℕ) (d : Row) → k < length rows → (whole held : Leads) → names_unit (get_or rows k d) ≡ true → leads_for rows whole held ≡ whole
 leads_held rows k d below whole held names = ap (λ b. cond b whole held) (list_any_at names_unit rows k d below names)
 
-module _ (whole : Registered) (rising : IsTable reallocation_key_cmp whole.reallocations) (named : BTreeSet UnitPeriod) where
+module _ (whole : Registered) (rising : IsTable reallocation_key_cmp whole.reallocations) (named : NamedUnits) where
   -- the reallocations whose unit and Settlement Period are named
   abbrev held : Table ReallocationKey Reallocation
   held = filter (is_named_in named) whole.reallocations
@@ -95,17 +84,25 @@ module _ (whole : Registered) (rising : IsTable reallocation_key_cmp whole.reall
       put_all_behind reallocation_key_total (filter (is_named_in named) (take i whole.reallocations)) []
       (sorted-filter reallocation_key_cmp (is_named_in named) (take i whole.reallocations) (sorted-take reallocation_key_cmp whole.reallocations i (from_true _ rising)))
 
-  held_at : (at : UnitPeriod) → contains unit_period_cmp named at ≡ true
+  held_at : (at : UnitPeriod) → contains unit_period_cmp named.periods at ≡ true
       → filter (λ e. eq_by_cmp unit_period_cmp e.0.unit_period at) held ≡ reallocations_at whole at
   held_at at is_named =
       filter_within (λ e. eq_by_cmp unit_period_cmp e.0.unit_period at) (is_named_in named)
-      (λ e here. ap (contains unit_period_cmp named) (exact_unit_periods e.0.unit_period at ((Equal-is (unit_period_cmp e.0.unit_period at)).0 here)) ∙ is_named) whole.reallocations
+      (λ e here. or_left (contains unit_period_cmp named.periods e.0.unit_period) (contains bytes_cmp named.units e.0.unit_period.unit)
+      (ap (contains unit_period_cmp named.periods) (exact_unit_periods e.0.unit_period at ((Equal-is (unit_period_cmp e.0.unit_period at)).0 here)) ∙ is_named)) whole.reallocations
+
+  held_of : (unit : List ℕ) → contains bytes_cmp named.units unit ≡ true
+      → filter (λ e. eq_by_cmp bytes_cmp e.0.unit_period.unit unit) held ≡ reallocations_of whole unit
+  held_of unit is_named =
+      filter_within (λ e. eq_by_cmp bytes_cmp e.0.unit_period.unit unit) (is_named_in named)
+      (λ e here. or_right (contains unit_period_cmp named.periods e.0.unit_period) (contains bytes_cmp named.units e.0.unit_period.unit)
+      (ap (contains bytes_cmp named.units) (exact_bytes e.0.unit_period.unit unit ((Equal-is (bytes_cmp e.0.unit_period.unit unit)).0 here)) ∙ is_named)) whole.reallocations
 
   -- with what a row names, these reallocations and the registrations, the part has all that the row is judged by
   agrees_with_held : (part : RegisterView) (leads : Leads) (r : Row) → AgreesOnNames whole (tables_in part) r → IsNamedIn named r → (names_unit r ≡ true → leads ≡ whole.leads)
       → AgreesOn whole (tables_in (holding_leads (with_reallocations held part) leads)) r
   agrees_with_held part leads (row.Party r) names is_named has = names
-  agrees_with_held part leads (row.Unit r) (party, unit) is_named has = (party, unit, has refl)
+  agrees_with_held part leads (row.Unit r) (party, unit) is_named has = (party, unit, held_of r.unit is_named, has refl)
   agrees_with_held part leads (row.Meter r) (unit, reading) is_named has = (unit, reading, has refl)
   agrees_with_held part leads (row.Price r) names is_named has = names
   agrees_with_held part leads (row.Contract r) names is_named has = names
@@ -128,22 +125,22 @@ module _ (whole : Registered) (rising : IsTable reallocation_key_cmp whole.reall
       })
 
 -- what is named stays named
-stays_named : (old new : BTreeSet UnitPeriod) → ((at : UnitPeriod) → contains unit_period_cmp old at ≡ true → contains unit_period_cmp new at ≡ true) → (r : Row) → IsNamedIn old r → IsNamedIn new r
+stays_named : (old new : NamedUnits) → KeepsNames old new → (r : Row) → IsNamedIn old r → IsNamedIn new r
 stays_named old new more (row.Party r) h = h
-stays_named old new more (row.Unit r) h = h
+stays_named old new more (row.Unit r) h = more.units r.unit h
 stays_named old new more (row.Meter r) h = h
 stays_named old new more (row.Price r) h = h
 stays_named old new more (row.Contract r) h = h
-stays_named old new more (row.Reallocation r) h = more r.key.unit_period h
+stays_named old new more (row.Reallocation r) h = more.periods r.key.unit_period h
 
 -- one more row is named
-pub named_more : (rows : List Row) (i : ℕ) (r : Row) → i < length rows → r ≡ get_or rows i r → (old new : BTreeSet UnitPeriod) → All (IsNamedIn old) (take i rows)
-    → ((at : UnitPeriod) → contains unit_period_cmp old at ≡ true → contains unit_period_cmp new at ≡ true) → IsNamedIn new r → All (IsNamedIn new) (take (i + 1) rows)
+pub named_more : (rows : List Row) (i : ℕ) (r : Row) → i < length rows → r ≡ get_or rows i r → (old new : NamedUnits) → All (IsNamedIn old) (take i rows)
+    → KeepsNames old new → IsNamedIn new r → All (IsNamedIn new) (take (i + 1) rows)
 named_more rows i r inside is old new so_far more own =
     All-more (IsNamedIn new) rows i r inside (All-weaker (IsNamedIn old) (IsNamedIn new) (stays_named old new more) (take i rows) so_far) (subst (IsNamedIn new) is own)
 
 -- one more reallocation, which is held if its unit and Settlement Period are named
-pub held_more : (named : BTreeSet UnitPeriod) (es : Table ReallocationKey Reallocation) (i : ℕ) (e : ReallocationKey × Reallocation) → i < length es → e ≡ get_or es i e → (before : Table ReallocationKey Reallocation)
+pub held_more : (named : NamedUnits) (es : Table ReallocationKey Reallocation) (i : ℕ) (e : ReallocationKey × Reallocation) → i < length es → e ≡ get_or es i e → (before : Table ReallocationKey Reallocation)
     → put_all reallocation_key_cmp (filter (is_named_in named) (take (i + 1) es)) before
     ≡ cond (is_named_in named e) (put reallocation_key_cmp e.0 e.1 (put_all reallocation_key_cmp (filter (is_named_in named) (take i es)) before)) (put_all reallocation_key_cmp (filter (is_named_in named) (take i es)) before)
 held_more named es i e inside is before =
@@ -155,9 +152,9 @@ held_more named es i e inside is before =
     ]
 
 -- putting a name into a set leaves the other names in it
-pub still_named : (old new : BTreeSet UnitPeriod) (key : UnitPeriod) → Updates unit_period_cmp old new key true → (at : UnitPeriod) → contains unit_period_cmp old at ≡ true → contains unit_period_cmp new at ≡ true
-still_named old new key updates at h =
-    updates.0 at ∙ elim (is_at (unit_period_cmp key) at) as (λ b. cond b true (contains unit_period_cmp old at) ≡ true) [ true ↦ refl | false ↦ h ]
+pub still_named : {K : Type 0} (R : K → K → Ordering) (old new : BTreeSet K) (key : K) → Updates R old new key true → (at : K) → contains R old at ≡ true → contains R new at ≡ true
+still_named R old new key updates at h =
+    updates.0 at ∙ elim (is_at (R key) at) as (λ b. cond b true (contains R old at) ≡ true) [ true ↦ refl | false ↦ h ]
 
 -- both agree on one more row
 pub names_more : (whole : Registered) (rows : List Row) (i : ℕ) (r : Row) → i < length rows → r ≡ get_or rows i r → (old new : RegisterView) → Grows whole old new
@@ -167,7 +164,7 @@ names_more whole rows i r inside is old new grows so_far own =
     (All-weaker (AgreesOnNames whole (tables_in old)) (AgreesOnNames whole (tables_in new)) (names_grown whole old new grows) (take i rows) so_far)
     (subst (AgreesOnNames whole (tables_in new)) is own)
 
-module _ (named : BTreeSet UnitPeriod) where
+module _ (named : NamedUnits) where
   -- the part with the reallocations that are named
   abbrev with_named : Table ReallocationKey Reallocation → RegisterView → RegisterView
   with_named es part = with_reallocations (put_all reallocation_key_cmp (filter (is_named_in named) es) (tables_in part).reallocations) part
@@ -189,12 +186,3 @@ module _ (named : BTreeSet UnitPeriod) where
         became ∙ so_far
         ∙ sym (ap (λ rows. with_reallocations rows first) (one_more ∙ ap (λ b. cond b (put reallocation_key_cmp e.0 e.1 (put_all reallocation_key_cmp (filter (is_named_in named) (take i es)) (tables_in first).reallocations))
         (put_all reallocation_key_cmp (filter (is_named_in named) (take i es)) (tables_in first).reallocations)) elsewhere))
-
--- a row of another kind names no unit in a Settlement Period
-pub not_named : (named : BTreeSet UnitPeriod) (r : Row) → ((x : ReallocationRow) → r ≢ row.Reallocation x) → IsNamedIn named r
-not_named named (row.Party r) other = tt
-not_named named (row.Unit r) other = tt
-not_named named (row.Meter r) other = tt
-not_named named (row.Price r) other = tt
-not_named named (row.Contract r) other = tt
-not_named named (row.Reallocation r) other = absurd (other r refl)

@@ -1,7 +1,6 @@
 -- If what is registered and in force is sound, no part of it has more than 100 percent of a unit.
 use Rattle.std.proofs.Common.{◌≡◌, ℕ, zero, suc, ◌<◌, [], ◌∷◌, length, take, get_or, sym, ap, subst, ◌∙◌, Bool, true, false, cond, arith}
 use Rattle.std.specs.Prelude.{ℤ, pos, ◌+ℤ◌, ◌≤ℤ◌, filter, not, ◌&&◌, is_ok, int_lt, Result, Ok, Err, IsOk}
-use Rattle.std.specs.BTreeSet.{BTreeSet}
 use Rattle.std.specs.Cmp.{eq_by_cmp_equiv}
 use Rattle.std.specs.List.{AllByRecursion}
 use Rattle.std.specs.Ordering.{eq_by_cmp}
@@ -22,6 +21,7 @@ use Rattle.hh_rules.specs.History.{Registered}
 use Rattle.hh_rules.specs.Percents.{is_of_other, percent_of_others}
 use Rattle.hh_rules.specs.RegisterView.{RegisterView, held_reallocation, tables_in}
 use Rattle.hh_states.specs.Soundness.{AreSound}
+use Rattle.hh_kept_rows.specs.declared.named_units.NamedUnits.{NamedUnits}
 use Rattle.hh_kept_rows.specs.steps.Parts.{is_named_in, with_reallocations, NoneNegative}
 use Rattle.hh_kept_rows.proofs.NamedLaws.{put_so_far}
 
@@ -87,7 +87,7 @@ module _ (tables : Registered) (sound : AreSound tables) where
 
 -- so a part takes the next of the reallocations that are named
 pub takes_more : (tables : Registered) → AreSound tables → IsTable reallocation_key_cmp tables.reallocations → NoneNegative tables.reallocations
-    → (named : BTreeSet UnitPeriod) (lent : Table ReallocationKey Reallocation) → lent ≡ tables.reallocations
+    → (named : NamedUnits) (lent : Table ReallocationKey Reallocation) → lent ≡ tables.reallocations
     → (i : ℕ) (e : ReallocationKey × Reallocation) → i < length lent → e ≡ get_or lent i e → (first old : RegisterView) → (tables_in first).reallocations ≡ []
     → old ≡ with_reallocations (put_all reallocation_key_cmp (filter (is_named_in named) (take i tables.reallocations)) (tables_in first).reallocations) first
     → IsOk (held_reallocation old e.0 e.1)

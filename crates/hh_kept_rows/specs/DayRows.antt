@@ -31,11 +31,12 @@ pub record HasContractsOn (date : ℕ) (whole part : Registered) : Type 0 where
   pub references : All (λ e. e.0.at.date ≡ date
       → find bytes_cmp e.0.reference part.references ≡ find bytes_cmp e.0.reference whole.references) whole.contracts
 
--- the part has all parties and units of the whole, and for a date: its prices, its contracts, and the readings and reallocations of
--- the units that are effective on it
+-- the part has all parties and units of the whole with all their registrations, and for a date: its prices, its contracts, and the
+-- readings and reallocations of the units that are effective on it
 pub record HasRowsOn (date : ℕ) (whole part : Registered) : Type 0 where
   pub parties : part.parties ≡ whole.parties
   pub units : part.units ≡ whole.units
+  pub leads : part.leads ≡ whole.leads
   pub prices : (at : SettlementPeriod) → at.date ≡ date → price_of part at ≡ price_of whole at
   pub of_units : (at : SettlementPeriod) → at.date ≡ date
       → All (λ u. AgreesOnUnitAt whole part u.0 at) (units_on whole date)

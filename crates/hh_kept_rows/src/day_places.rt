@@ -93,7 +93,7 @@ impl KeptRegister {
         let mut units = Vec::with_capacity(alloc, roll.units.len())?;
         if let (Some(first), Some(last)) = (periods.first(), periods.last()) {
             for unit in roll.units.as_slice() {
-                let lead = place_among(&roll.accounts, &self.lead_on(unit, first.date));
+                let lead = place_among(&roll.accounts, &unit.1.lead);
                 let (first, last) = (unit_period(&unit.0, first), unit_period(&unit.0, last));
                 units.push(self.places_between(lead, &first, &last))?;
             }

@@ -3,9 +3,9 @@
 ghost use Rattle.std.specs.Prelude.{◌≡◌, All, find, filter_map, pos, unwrap_or, IfOk, is_none};
 ghost use Rattle.hh_rules.specs.Leads.{lead_on};
 ghost use Rattle.hh_states.specs.DaySettlement.{missing_meter, missing_price, periods_on, unit_periods_at};
-ghost use Rattle.hh_states.specs.PeriodSettlement.{accounts_on, price_of, reading_of, subsidiaries_of, terms_at, unit_at, units_on};
+ghost use Rattle.hh_states.specs.PeriodSettlement.{accounts_on, price_of, reading_of, subsidiaries_of, terms_at, unit_at};
 ghost use Rattle.hh_store.specs.DayReads.{ArePeriodsOf, IsDayData};
-ghost use Rattle.hh_kept_rows.specs.steps.DayRolls.{IsRollOf, row_on};
+ghost use Rattle.hh_kept_rows.specs.steps.DayRolls.{led_units_on, row_on, AreLedOn, IsRollOf};
 ghost use Rattle.hh_kept_rows.specs.steps.KeptContracts.{period_contracts};
 ghost use Rattle.hh_kept_rows.specs.steps.KeptReallocations.{AreReallocations};
 
@@ -23,8 +23,8 @@ use hh_store::{DayData, PeriodState, periods_of};
 use hh_time::{Day, SettlementDate};
 use std::alloc::{AllocError, Global};
 
-/// What all Settlement Periods of a date have in common: its accounts, its units, and the rows of
-/// contracts in force on it, ordered by their references.
+/// What all Settlement Periods of a date have in common: its accounts, its units with their lead accounts
+/// of the date, and the rows of contracts in force on it, ordered by their references.
 #[derive(Drop)]
 pub(crate) struct DayRoll {
     pub(crate) accounts: Vec<Account>,
@@ -106,18 +106,20 @@ impl KeptRegister {
         Ok(accounts)
     }
 
-    /// The units of a date, in the order of their ids.
+    /// The units of a date, in the order of their ids, each with the account that leads it on the date in
+    /// the place of its latest.
     pub(crate) fn units_on(
         &self,
         alloc: Global,
         date: SettlementDate,
     ) -> Result<Vec<(UnitId, UnitRegistration)>, AllocError>
-        ensures { IfOk result (λ units. units.items ≡ units_on self.now date) }
+        ensures { IfOk result (λ units. units.items ≡ led_units_on self.now date) }
     {
         let mut units = Vec::new(alloc);
         for unit in self.units.rows() {
             if unit.1.range.holds(date) {
-                units.push(*unit)?;
+                let lead = self.lead_on(unit, date);
+                units.push((unit.0, UnitRegistration { lead, ..unit.1 }))?;
             }
         }
         Ok(units)
@@ -193,7 +195,7 @@ impl KeptRegister {
         places: &DayPlaces,
         periods: &[SettlementPeriod],
     ) -> Option<UnitPeriod>
-        requires { All (λ at. units.now ≡ units_on self.now at.date) periods.now }
+        requires { All (λ at. units.now ≡ led_units_on self.now at.date) periods.now }
         ensures { result ≡ missing_meter self.now periods.now }
     {
         for at in periods {
@@ -211,7 +213,7 @@ impl KeptRegister {
         places: &DayPlaces,
         at: &SettlementPeriod,
     ) -> Option<UnitPeriod>
-        requires { units.now ≡ units_on self.now at.now.date }
+        requires { units.now ≡ led_units_on self.now at.now.date }
         ensures { result ≡ find (λ key. is_none (reading_of self.now key))
             (unit_periods_at self.now at.now) }
     {
@@ -317,7 +319,8 @@ impl KeptRegister {
         self.prices.get(at).unwrap_or(Price::of(0))
     }
 
-    /// What the units that have a reading in a Settlement Period are settled from.
+    /// What the units that have a reading in a Settlement Period are settled from. They have their lead
+    /// accounts of its date.
     pub(crate) fn units_at(
         &self,
         alloc: Global,
@@ -325,6 +328,7 @@ impl KeptRegister {
         places: &DayPlaces,
         at: &SettlementPeriod,
     ) -> Result<Vec<UnitData>, AllocError>
+        requires { AreLedOn self.now at.now.date units.now }
         ensures { IfOk result (λ terms.
             terms.items ≡ filter_map (unit_at self.now at.now) units.now) }
     {
@@ -338,8 +342,8 @@ impl KeptRegister {
         Ok(found)
     }
 
-    /// What a unit is settled from in a Settlement Period, if it has a reading. `rows` are all
-    /// reallocations in force. Looks for the unit's rows at these places first.
+    /// What a unit is settled from in a Settlement Period, if it has a reading. It has its lead account of
+    /// the date. `rows` are all reallocations in force. Looks for the unit's rows at these places first.
     fn unit_at(
         &self,
         alloc: Global,
@@ -348,7 +352,8 @@ impl KeptRegister {
         places: UnitPlaces,
         at: &SettlementPeriod,
     ) -> Result<Option<UnitData>, AllocError>
-        requires { AreReallocations self.now rows.now }
+        requires rows { AreReallocations self.now rows.now }
+        requires lead { unit.now.1.lead ≡ lead_on self.now unit.now.0 unit.now.1 at.now.date }
         ensures { IfOk result (λ terms. terms ≡ unit_at self.now at.now unit.now) }
     {
         let key = unit_period(&unit.0, at);
@@ -358,7 +363,7 @@ impl KeptRegister {
         let subsidiaries = self.subsidiaries_of(alloc, rows, places, &key)?;
         let data = UnitData::new(
             unit.0,
-            self.lead_on(unit, at.date),
+            unit.1.lead,
             unit.1.interconnector,
             reading,
             subsidiaries,
@@ -367,10 +372,10 @@ impl KeptRegister {
     }
 
     /// The account that leads a unit on a date.
-    pub(crate) fn lead_on(&self, unit: &(UnitId, UnitRegistration), date: SettlementDate) -> Account
+    fn lead_on(&self, unit: &(UnitId, UnitRegistration), date: SettlementDate) -> Account
         ensures { result ≡ lead_on self.now unit.now.0 unit.now.1 date }
     {
-        unit.1.lead
+        self.leads.lead_on(&unit.0, date).unwrap_or(unit.1.lead)
     }
 
     /// The subsidiaries of a unit in a Settlement Period, in account order. `rows` are all reallocations in

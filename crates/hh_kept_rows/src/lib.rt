@@ -20,6 +20,7 @@ mod kept_day;
 mod kept_reallocations;
 mod kept_register;
 mod laws;
+mod named_units;
 mod net_volumes;
 mod part;
 mod reports;

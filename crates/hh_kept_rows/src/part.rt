@@ -8,15 +8,15 @@ ghost use Rattle.hh_rows.specs.Keys.{contract_key_cmp, reallocation_key_cmp, set
 ghost use Rattle.hh_rules.specs.RegisterView.{held_reallocation, holding_leads, holding_reallocation, tables_in, AgreesOnParty, AgreesOnReference, AgreesOnUnit, ServesFor};
 ghost use Rattle.hh_states.specs.Soundness.{AreSound};
 ghost use Rattle.hh_kept_rows.specs.Parts.{leads_for, names_unit, whole_of};
-ghost use Rattle.hh_kept_rows.specs.steps.Parts.{is_after, is_named_in, with_reallocations, AgreesOnNames, AgreesOnUnits, NoneAfter, Grows, IsNamedIn, IsPartOf, NoneNegative};
+ghost use Rattle.hh_kept_rows.specs.steps.Parts.{is_after, is_named_in, with_reallocations, AgreesOnNames, AgreesOnUnits, Grows, IsPartOf, NoneAfter, NoneNegative};
 
 use crate::kept_register::KeptRegister;
+use crate::named_units::NamedUnits;
 use hh_names::{PartyId, Reading, Reallocation, Reference, Refusal, UnitId};
 use hh_rows::{ContractKey, LeadMinutes, ReallocationKey, Row, SettlementPeriod, UnitPeriod};
 use hh_rules::Register;
 use hh_store::StoreFault;
 use std::alloc::{AllocError, Global};
-use std::collections::BTreeSet;
 
 impl KeptRegister {
     /// A register that judges these rows, and is changed by them, as a register of everything that is
@@ -32,7 +32,7 @@ impl KeptRegister {
             → IfErr result (λ fault. fault ≡ StoreFault.Memory) }
     {
         let mut part = self.names_of(alloc, lead_minutes, rows)?;
-        let named = periods_named(alloc, rows)?;
+        let named = NamedUnits::of(alloc, rows)?;
         self.hold_reallocations(&mut part, &named)?;
         self.hold_leads(alloc, &mut part, rows)?;
         Ok(part)
@@ -307,13 +307,9 @@ impl KeptRegister {
         }
     }
 
-    /// Holds all reallocations in force whose unit and Settlement Period are named. `Store` if more than
-    /// 100 percent of a unit would be in force.
-    fn hold_reallocations(
-        &self,
-        part: &mut Register,
-        named: &BTreeSet<UnitPeriod>,
-    ) -> Result<(), StoreFault>
+    /// Holds all reallocations in force of the units that are named. `Store` if more than 100 percent of a
+    /// unit would be in force.
+    fn hold_reallocations(&self, part: &mut Register, named: &NamedUnits) -> Result<(), StoreFault>
         ensures held { OnOk result (part.new ≡ with_reallocations
             (put_all reallocation_key_cmp (filter (is_named_in named.now) self.now.reallocations)
             (tables_in part.old).reallocations) part.old) }
@@ -409,17 +405,4 @@ fn hold_reallocation(
             }
         }
     }
-}
-
-/// The units and Settlement Periods that rows of reallocations name.
-fn periods_named(alloc: Global, rows: &[Row]) -> Result<BTreeSet<UnitPeriod>, AllocError>
-    ensures { IfOk result (λ named. All (IsNamedIn named) rows.now) }
-{
-    let mut named = BTreeSet::new(alloc);
-    for row in rows {
-        if let Row::Reallocation(row) = row {
-            named.insert(row.key.unit_period)?;
-        }
-    }
-    Ok(named)
 }

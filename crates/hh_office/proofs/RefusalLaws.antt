@@ -131,7 +131,7 @@ met_elsewhere (r ∷ rs) why all is = met_by r.1 (met_elsewhere rs why all.1) is
 -- a row of a file is refused only by the rules of the market
 row_elsewhere : (standing : Standing) (timing : Timing) (r : Row) → AllByRecursion (λ r. is_of_store r.0 ≡ false) (refusals_of standing timing r)
 row_elsewhere standing timing (row.Party r) = (refl, (refl, tt))
-row_elsewhere standing timing (row.Unit r) = (refl, (refl, (refl, (refl, (refl, tt)))))
+row_elsewhere standing timing (row.Unit r) = (refl, (refl, (refl, (refl, (refl, (refl, tt))))))
 row_elsewhere standing timing (row.Meter r) = (refl, (refl, (refl, tt)))
 row_elsewhere standing timing (row.Price r) = (refl, tt)
 row_elsewhere standing timing (row.Contract r) = (refl, (refl, (refl, (refl, (refl, tt)))))

@@ -1,4 +1,4 @@
--- What version 1 accepted is accepted where a unit may change its lead account, and leaves one registration for each unit.
+-- What version 1 accepted is accepted by the office, and leaves one registration for each unit.
 use Rattle.std.proofs.Common.{◌≡◌, ◌+◌, ◌<◌, ◌≤◌, ℕ, List, [], ◌∷◌, ◌++◌, Bool, true, false, cond, refl, sym, ap, subst, ◌∙◌, Option, Some, None, Ordering, arith, inl, inr}
 use Rattle.std.specs.Prelude.{◌⊎◌, ◌-◌, ℤ, nat_le, nat_lt, is_none, is_some, option_map, option_to_list, not, ◌&&◌, ◌||◌, unwrap_or, T}
 use Rattle.std.specs.List.{list_any}
@@ -28,20 +28,20 @@ use Rattle.hh_rows.specs.declared.rows.Row.TheVariants as row
 use Rattle.hh_rows.specs.declared.rows.UnitRegistration.{UnitRegistration}
 use Rattle.hh_rows.specs.declared.rows.UnitRow.{UnitRow}
 use Rattle.hh_registrations.specs.declared.changes.FormerLead.TheVariants as former
-use Rattle.hh_registrations.specs.Registrations.{Lead, Leads, RegistrationsView, beside_former, former_lead, last_registration, lead_of, no_registrations, one_lead_each, registration_on, unless_ended, widened, with_unit_row}
+use Rattle.hh_registrations.specs.Registrations.{Lead, Leads, RegistrationsView, beside_former, former_lead, last_registration, lead_of, one_lead_each, registration_on, unless_ended, widened, with_unit_row}
 use Rattle.hh_registrations.proofs.KeyLaws.{at}
 use Rattle.hh_rules.specs.declared.timing.Timing.{Timing}
 use Rattle.hh_rules.specs.Entries.{unit_entry}
-use Rattle.hh_rules.specs.History.{History, Registered, entries_of, leads_from, leads_with_row}
+use Rattle.hh_rules.specs.History.{History, Registered, entries_of, registered_in}
 use Rattle.hh_rules.specs.Lateness.{Timetable, Accepted, accepted_at, comes_in_time, lacks_period, timing_of}
-use Rattle.hh_rules.specs.Refusals.{is_party_off, is_same_mark, is_some_that, is_unit_moved, is_unit_off, most_units, passes_hundred, registered_party, whole_standing}
+use Rattle.hh_rules.specs.Refusals.{is_party_off, is_same_mark, is_shrunk, is_some_that, is_subsidiary_put_first, is_to_lead_of, is_unit_moved, is_unit_off, last_lead, most_units, passes_hundred, reallocation_refusals, registered_party, unit_refusals, whole_standing}
 use Rattle.hh_rules.proofs.HistoryLaws.{entries_of-append}
-use Rattle.hh_successions.specs.RegistrationHistory.{IsAcceptedBy, no_rows, one_more, refusal_by, registered_with_units, registrations_from, registrations_in, registrations_with}
-use Rattle.hh_successions.specs.SuccessionRefusals.{is_shrunk, is_subsidiary_put_first, is_to_lead_of, is_unit_moved_by_leads, last_lead, reallocation_refusals_by_leads, refusals_by_leads, unit_refusals_by_leads}
+use Rattle.hh_successions.specs.RegistrationHistory.{IsAcceptedBy, no_rows, one_more, refusal_by, registrations_in, registrations_with}
+use Rattle.hh_successions.specs.RowRules.{office_rule}
 use Rattle.hh_successions.proofs.LeadLaws.{IsKept, first_is, last_holds, last_known, lead_key, lead_term, with_registration}
 use Rattle.hh_successions.proofs.LookBackLaws.{AreKeptIn, NoneMet, accepted_kept, none_met, not_passed, row_by_row}
 use Rattle.hh_successions.proofs.RowFacts.{earlier_is, holds_parts}
-use Rattle.hh_old_versions.specs.OldVersions.{HistoriesOfVersionOne, KeptByVersionOne, SameRefusals, is_lead_refusal, reallocation_refusals_of_version_one, rule_of_version_one, unit_refusals_of_version_one}
+use Rattle.hh_old_versions.specs.OldVersions.{HistoriesOfVersionOne, KeptByVersionOne, SameRefusals, is_lead_refusal, is_moved_in_version_one, reallocation_refusals_of_version_one, rule_of_version_one, unit_refusals_of_version_one}
 
 -- ---- one registration for each unit, as units are put
 
@@ -144,7 +144,7 @@ found_one unit from known (e ∷ es) rising found there =
 -- ---- a row of units that version 1 accepted
 
 -- a unit that is known, and a row that version 1 accepted
-module _ (unit : List ℕ) (known new : UnitRegistration) (inside : is_inside known.range new.range ≡ true) (unmoved : is_unit_moved known new ≡ false) where
+module _ (unit : List ℕ) (known new : UnitRegistration) (inside : is_inside known.range new.range ≡ true) (unmoved : is_moved_in_version_one known new ≡ false) where
   low : new.range.from ≤ known.range.from
   low = leb-true _ _ (and_parts _ _ inside).0
 
@@ -164,7 +164,7 @@ module _ (unit : List ℕ) (known new : UnitRegistration) (inside : is_inside kn
   pub not_shrunk : is_shrunk known (lead_of unit known) new ≡ false
   not_shrunk = or_from _ _ (le-ltb new.range.to known.range.to high) (and_right (is_same_account known.lead new.lead) _ (le-ltb known.range.from new.range.from low))
 
-  pub not_moved : is_unit_moved_by_leads known (lead_of unit known) new ≡ false
+  pub not_moved : is_unit_moved known (lead_of unit known) new ≡ false
   not_moved = or_from _ _ (ap not same_mark)
       (ap (λ b. cond b (nat_lt new.range.from known.range.from && nat_lt known.range.from known.range.from) (nat_le new.range.from known.range.from || nat_lt (known.range.to + 1) new.range.from)) same_lead
       ∙ and_right (nat_lt new.range.from known.range.from) _ (le-ltb known.range.from known.range.from (omega arith)))
@@ -235,7 +235,7 @@ by_first false false false false shrunk moved put_first last here why is other =
 
 module _ (timetable : Timetable) (history : History) (kept : AreKeptIn history) (one : AreOfVersionOne history) (r : UnitRow) where
   abbrev tables : Registered
-  tables = registered_with_units timetable history
+  tables = registered_in timetable history
 
   abbrev leads : Leads
   leads = (registrations_in history).leads
@@ -250,27 +250,27 @@ module _ (timetable : Timetable) (history : History) (kept : AreKeptIn history) 
   known_row = find bytes_cmp r.unit units
 
   -- if version 1's conditions of 39 and 40 aren't met, none of 39 to 41 is
-  none_here : (o : Option UnitRegistration) → known_row ≡ o → is_some_that (λ u. not (is_inside u.range new_row.range)) o ≡ false → is_some_that (λ u. is_unit_moved u new_row) o ≡ false
-      → (is_some_that (λ u. is_shrunk u (last_lead leads r.unit u) new_row) o ≡ false) × (is_some_that (λ u. is_unit_moved_by_leads u (last_lead leads r.unit u) new_row) o ≡ false)
-      × (is_some_that (λ u. is_subsidiary_put_first tables leads r (last_lead leads r.unit u)) o ≡ false)
+  none_here : (o : Option UnitRegistration) → known_row ≡ o → is_some_that (λ u. not (is_inside u.range new_row.range)) o ≡ false → is_some_that (λ u. is_moved_in_version_one u new_row) o ≡ false
+      → (is_some_that (λ u. is_shrunk u (last_lead leads r.unit u) new_row) o ≡ false) × (is_some_that (λ u. is_unit_moved u (last_lead leads r.unit u) new_row) o ≡ false)
+      × (is_some_that (λ u. is_subsidiary_put_first (whole_standing tables) r (last_lead leads r.unit u)) o ≡ false)
   none_here None is wide unmoved = (refl, refl, refl)
   none_here (Some u) is wide unmoved =
       let inside : is_inside u.range new_row.range ≡ true = not-false (is_inside u.range new_row.range) wide in
       let last : last_lead leads r.unit u ≡ lead_of r.unit u = ap (λ (o : Option Lead). unwrap_or o (lead_of r.unit u)) (last_one history kept one r.unit u is) in (
         ap (λ l. is_shrunk u l new_row) last ∙ not_shrunk r.unit u new_row inside unmoved,
-        ap (λ l. is_unit_moved_by_leads u l new_row) last ∙ not_moved r.unit u new_row inside unmoved,
-        ap (λ l. is_subsidiary_put_first tables leads r l) last
+        ap (λ l. is_unit_moved u l new_row) last ∙ not_moved r.unit u new_row inside unmoved,
+        ap (λ l. is_subsidiary_put_first (whole_standing tables) r l) last
             ∙ ap (λ b. not b && list_any (λ e. is_to_lead_of r e.0) tables.reallocations) (same_lead r.unit u new_row inside unmoved),
       )
 
   -- the row is refused for version 1's reason, unless that is 39 or 40
-  pub same_refusal : (why : Option Refusal) → first_met (unit_refusals_of_version_one (whole_standing tables) r) ≡ why → is_some_that is_lead_refusal why ≡ false → first_met (unit_refusals_by_leads tables leads r) ≡ why
+  pub same_refusal : (why : Option Refusal) → first_met (unit_refusals_of_version_one (whole_standing tables) r) ≡ why → is_some_that is_lead_refusal why ≡ false → first_met (unit_refusals (whole_standing tables) r) ≡ why
   same_refusal why is other =
       by_first (is_none (registered_party (whole_standing tables) new_row.lead.party))
       (is_some_that (λ p. not (is_inside new_row.range p.range)) (registered_party (whole_standing tables) new_row.lead.party))
-      (is_some_that (λ u. not (is_inside u.range new_row.range)) known_row) (is_some_that (λ u. is_unit_moved u new_row) known_row)
-      (is_some_that (λ u. is_shrunk u (last_lead leads r.unit u) new_row) known_row) (is_some_that (λ u. is_unit_moved_by_leads u (last_lead leads r.unit u) new_row) known_row)
-      (is_some_that (λ u. is_subsidiary_put_first tables leads r (last_lead leads r.unit u)) known_row)
+      (is_some_that (λ u. not (is_inside u.range new_row.range)) known_row) (is_some_that (λ u. is_moved_in_version_one u new_row) known_row)
+      (is_some_that (λ u. is_shrunk u (last_lead leads r.unit u) new_row) known_row) (is_some_that (λ u. is_unit_moved u (last_lead leads r.unit u) new_row) known_row)
+      (is_some_that (λ u. is_subsidiary_put_first (whole_standing tables) r (last_lead leads r.unit u)) known_row)
       (first_met ((refusal.TooMany, is_none known_row && nat_le most_units (whole_standing tables).unit_count) ∷ []))
       (λ wide unmoved. none_here known_row refl wide unmoved) why is other
 
@@ -283,8 +283,8 @@ module _ (timetable : Timetable) (history : History) (kept : AreKeptIn history) 
     wide_row : (u : UnitRegistration) → known_row ≡ Some u → is_inside u.range new_row.range ≡ true
     wide_row u is = not-false _ (not_passed (λ (x : UnitRegistration). not (is_inside x.range new_row.range)) known_row u unmet_before.1.1.0 is)
 
-    unmoved_row : (u : UnitRegistration) → known_row ≡ Some u → is_unit_moved u new_row ≡ false
-    unmoved_row u is = not_passed (λ (x : UnitRegistration). is_unit_moved x new_row) known_row u unmet_before.1.1.1.0 is
+    unmoved_row : (u : UnitRegistration) → known_row ≡ Some u → is_moved_in_version_one u new_row ≡ false
+    unmoved_row u is = not_passed (λ (x : UnitRegistration). is_moved_in_version_one x new_row) known_row u unmet_before.1.1.1.0 is
 
     -- what is registered of the unit is the row itself
     row_is : (o : Option UnitRegistration) → known_row ≡ o → widened o new_row ≡ new_row
@@ -316,7 +316,7 @@ by_own_lead false false false false own other last alike = ap (λ x. first_met (
 
 module _ (timetable : Timetable) (history : History) (kept : AreKeptIn history) (one : AreOfVersionOne history) (timing : Timing) (r : ReallocationRow) where
   abbrev tables_now : Registered
-  tables_now = registered_with_units timetable history
+  tables_now = registered_in timetable history
 
   abbrev unit : List ℕ
   unit = r.key.unit_period.unit
@@ -329,7 +329,7 @@ module _ (timetable : Timetable) (history : History) (kept : AreKeptIn history) 
   own_alike None is known held = cc
   own_alike (Some u) is known held = ap (is_some_that (λ (e : Lead). is_same_account e.1.lead r.key.account)) (one_on history kept one unit u is date (not-false (holds u.range date) held))
 
-  pub same_reallocation : first_met (reallocation_refusals_by_leads tables_now (registrations_in history).leads timing r) ≡ first_met (reallocation_refusals_of_version_one (whole_standing tables_now) timing r)
+  pub same_reallocation : first_met (reallocation_refusals (whole_standing tables_now) timing r) ≡ first_met (reallocation_refusals_of_version_one (whole_standing tables_now) timing r)
   same_reallocation =
       by_own_lead (is_none (registered_party (whole_standing tables_now) r.key.account.party)) (is_none (find bytes_cmp unit (registrations_in history).units))
       (is_unit_off (whole_standing tables_now) unit date || is_party_off (whole_standing tables_now) r.key.account.party date) (lacks_period timing)
@@ -342,7 +342,7 @@ module _ (timetable : Timetable) (history : History) (kept : AreKeptIn history) 
 
 -- a history that version 1 accepted, with all that is known of it
 pub record WasAccepted (timetable : Timetable) (history : History) : Type 0 where
-  pub here : IsAcceptedBy refusals_by_leads timetable history
+  pub here : IsAcceptedBy office_rule timetable history
   pub one : AreOfVersionOne history
 
 -- one more row, by what it makes of units
@@ -359,7 +359,7 @@ one_more_of history a units rising leads = record {
 
 -- a row of units
 unit_row_of : (timetable : Timetable) (history : History) (moment : ℤ) (r : UnitRow) → AreKeptIn history → AreOfVersionOne history
-    → first_met (unit_refusals_of_version_one (whole_standing (registered_with_units timetable history)) r) ≡ None
+    → first_met (unit_refusals_of_version_one (whole_standing (registered_in timetable history)) r) ≡ None
     → AreOfVersionOne (history ++ accepted_at moment (row.Unit r) ∷ [])
 unit_row_of timetable history moment r kept one accepted =
     let known : Option UnitRegistration = find bytes_cmp r.unit (registrations_in history).units in
@@ -380,10 +380,10 @@ other_row_of history a none same one =
 
 -- after a history that version 1 accepted a row is refused for version 1's reason, unless that is 39 or 40
 same_refusals_after : (timetable : Timetable) (history : History) (a : Accepted) → AreKeptIn history → AreOfVersionOne history
-    → (why : Option Refusal) → refusal_by rule_of_version_one timetable history a ≡ why → is_some_that is_lead_refusal why ≡ false → refusal_by refusals_by_leads timetable history a ≡ why
+    → (why : Option Refusal) → refusal_by rule_of_version_one timetable history a ≡ why → is_some_that is_lead_refusal why ≡ false → refusal_by office_rule timetable history a ≡ why
 same_refusals_after timetable history a kept one why =
-    elim a.row as (λ x. first_met (rule_of_version_one (registered_with_units timetable history) (registrations_in history).leads (timing_of timetable a) x) ≡ why → is_some_that is_lead_refusal why ≡ false
-    → first_met (refusals_by_leads (registered_with_units timetable history) (registrations_in history).leads (timing_of timetable a) x) ≡ why) [
+    elim a.row as (λ x. first_met (rule_of_version_one (registered_in timetable history) (timing_of timetable a) x) ≡ why → is_some_that is_lead_refusal why ≡ false
+    → first_met (office_rule (registered_in timetable history) (timing_of timetable a) x) ≡ why) [
       | row.Unit r ↦ λ is other. same_refusal timetable history kept one r why is other
       | row.Reallocation r ↦ λ is other. same_reallocation timetable history kept one (timing_of timetable a) r ∙ is
       | row.Party r ↦ λ is other. is
@@ -399,7 +399,7 @@ row_of timetable history a kept one accepted = of_row a.row refl
     of_row (row.Unit r) is =
         subst (λ x. AreOfVersionOne (history ++ accepted_at a.moment x ∷ [])) (sym is)
         (unit_row_of timetable history a.moment r kept one
-        (ap (λ x. first_met (rule_of_version_one (registered_with_units timetable history) (registrations_in history).leads (timing_of timetable (accepted_at a.moment x)) x)) (sym is) ∙ accepted))
+        (ap (λ x. first_met (rule_of_version_one (registered_in timetable history) (timing_of timetable (accepted_at a.moment x)) x)) (sym is) ∙ accepted))
     of_row (row.Party r) is = other_row_of history a (ap unit_entry is) (ap (λ x. registrations_with x (registrations_in history)) is) one
     of_row (row.Meter r) is = other_row_of history a (ap unit_entry is) (ap (λ x. registrations_with x (registrations_in history)) is) one
     of_row (row.Price r) is = other_row_of history a (ap unit_entry is) (ap (λ x. registrations_with x (registrations_in history)) is) one
@@ -420,19 +420,6 @@ was_accepted timetable _ (one_more history a before accepted) =
 pub histories_of_version_one : HistoriesOfVersionOne
 histories_of_version_one timetable history accepted = (was_accepted timetable history accepted).here
 
--- the tables have the registrations that the rows of a history make
-leads_of_row : (r : Row) (registered : RegistrationsView) → leads_with_row r registered.leads ≡ (registrations_with r registered).leads
-leads_of_row (row.Party r) registered = refl
-leads_of_row (row.Unit r) registered = refl
-leads_of_row (row.Meter r) registered = refl
-leads_of_row (row.Price r) registered = refl
-leads_of_row (row.Contract r) registered = refl
-leads_of_row (row.Reallocation r) registered = refl
-
-leads_of_rows : (history : History) (registered : RegistrationsView) → leads_from registered.leads history ≡ (registrations_from registered history).leads
-leads_of_rows [] registered = refl
-leads_of_rows (a ∷ rows) registered = ap (λ leads. leads_from leads rows) (leads_of_row a.row registered) ∙ leads_of_rows rows (registrations_with a.row registered)
-
 -- and has what version 1 kept
 pub kept_by_version_one : KeptByVersionOne
 kept_by_version_one timetable history accepted =
@@ -440,7 +427,6 @@ kept_by_version_one timetable history accepted =
     record {
       units = was.one.units;
       leads = was.one.leads;
-      kept = λ _. leads_of_rows history no_registrations ∙ was.one.leads ∙ ap one_lead_each was.one.units;
       lead = λ unit u found date held. ap (option_map (λ e. e.1.lead)) (one_on history (accepted_kept timetable history was.here) was.one unit u found date held);
     }
 

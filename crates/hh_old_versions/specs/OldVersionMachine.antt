@@ -14,9 +14,10 @@ use Rattle.hh_requests.specs.declared.reply.Reply.TheVariants as reply
 use Rattle.hh_texts.specs.Files.{file_rows}
 use Rattle.hh_states.specs.States.{KeptFileView, State, file_key_cmp}
 use Rattle.hh_states.specs.Steps.{IsReached, Load, after_load, kept_file, timetable_at}
-use Rattle.hh_office.specs.Machine.{act, key_of, load_read_as, loaded_reply, may, repeat_reply, step}
+use Rattle.hh_office.specs.Machine as machine
+use Rattle.hh_office.specs.Machine.{act, key_of, load_read_as, loaded_reply, may, repeat_reply}
 use Rattle.hh_office.specs.Transitions.{Transition, refused, refused_for, unchanged}
-use Rattle.hh_successions.specs.SuccessionRefusals.{RowRule, refusals_by_leads}
+use Rattle.hh_successions.specs.RowRules.{RowRule}
 use Rattle.hh_old_versions.specs.OldVersions.{is_lead_refusal, rule_of_version_one}
 use Rattle.hh_old_versions.specs.OldVersionStates.{IsReachedBy, first_fault_by}
 
@@ -68,23 +69,14 @@ abbrev pub is_lead_reply : Reply → Bool
 is_lead_reply (reply.Refused fault) = is_lead_refusal fault.refusal
 is_lead_reply _ = false
 
--- Each state that version 1 reaches is one that the machine reaches by the rule under which a unit may change its lead account. Each request
--- that version 1 doesn't refuse with 39 or 40 has the same answer there, and leaves the same state.
+-- Each state that version 1 reaches is one that the office reaches. Each request that version 1 doesn't refuse with 39 or 40 has the same
+-- answer of the office, and leaves the same state.
 pub record GoesOnFromVersionOne (midnight : Midnights) (s : State) : Type 0 where
-  pub reached : IsReachedBy refusals_by_leads midnight s
+  pub reached : IsReached midnight s
   pub answer : (moment : ℤ) (request : Request) → is_lead_reply (answer_by rule_of_version_one midnight s moment request) ≡ false
-      → answer_by refusals_by_leads midnight s moment request ≡ answer_by rule_of_version_one midnight s moment request
+      → machine.answer midnight s moment request ≡ answer_by rule_of_version_one midnight s moment request
   pub next : (moment : ℤ) (request : Request) → is_lead_reply (answer_by rule_of_version_one midnight s moment request) ≡ false
-      → next_by refusals_by_leads midnight s moment request ≡ next_by rule_of_version_one midnight s moment request
+      → machine.next midnight s moment request ≡ next_by rule_of_version_one midnight s moment request
 
 abbrev pub VersionOneGoesOn : Type 0
 VersionOneGoesOn = (midnight : Midnights) (s : State) → IsReachedBy rule_of_version_one midnight s → GoesOnFromVersionOne midnight s
-
--- The office goes on from this state as version 1 did: version 1 reaches the state too, and makes the same of each request.
-pub record IsAsInVersionOne (midnight : Midnights) (s : State) : Type 0 where
-  pub reached : IsReachedBy rule_of_version_one midnight s
-  pub answered : (moment : ℤ) (request : Request) → step midnight s moment request ≡ step_by rule_of_version_one midnight s moment request
-
--- so it is in each state that the office reaches
-abbrev pub OfficeIsOfVersionOne : Type 0
-OfficeIsOfVersionOne = (midnight : Midnights) (s : State) → IsReached midnight s → IsAsInVersionOne midnight s

@@ -1,4 +1,4 @@
--- The states that the settlement machine reaches by a rule of rows: version 1's, or the one by which a unit may change its lead account.
+-- The states that the settlement machine reaches by a rule of rows.
 use Rattle.std.specs.Prelude.{◌≡◌, ℕ, ◌+◌, ℤ, List, [], ◌∷◌, ◌++◌, Option, Some, None, IsTrue}
 use Rattle.std.specs.FinMap.{find}
 use Rattle.hh_time.specs.Days.{Midnights}
@@ -14,7 +14,7 @@ use Rattle.hh_runs.specs.declared.run_key.RunKey.{RunKey}
 use Rattle.hh_states.specs.States.{State, empty_state, file_key_cmp}
 use Rattle.hh_states.specs.Steps.{CanRun, Load, after_load, after_run, rows_coming, timetable_at}
 use Rattle.hh_successions.specs.RegistrationHistory.{refusal_by}
-use Rattle.hh_successions.specs.SuccessionRefusals.{RowRule}
+use Rattle.hh_successions.specs.RowRules.{RowRule}
 
 module _ (rule : RowRule) where
   -- the fault of the first row that the rule refuses after a history and the rows before it; rows are numbered from n on

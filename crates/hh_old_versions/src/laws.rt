@@ -1,14 +1,13 @@
 //! Laws on what version 1 has accepted. Each is the contract of a function that does nothing.
 
-ghost use Rattle.hh_old_versions.specs.OldVersionMachine.{OfficeIsOfVersionOne, VersionOneGoesOn};
+ghost use Rattle.hh_old_versions.specs.OldVersionMachine.{VersionOneGoesOn};
 ghost use Rattle.hh_old_versions.specs.OldVersions.{
   HistoriesOfVersionOne,
   KeptByVersionOne,
   SameRefusals,
 };
 
-/// Each history of rows that version 1 accepted is accepted by the rule under which a unit may change its
-/// lead account.
+/// The office accepts each history of rows that version 1 accepted.
 pub fn histories_of_version_one()
     ensures { HistoriesOfVersionOne }
 {}
@@ -19,21 +18,14 @@ pub fn kept_by_version_one()
     ensures { KeptByVersionOne }
 {}
 
-/// After such a history, a row is refused or accepted as by version 1, unless that refused it with 39 or
+/// After such a history, the office refuses or accepts a row as version 1 did, unless that was with 39 or
 /// 40.
 pub fn same_refusals()
     ensures { SameRefusals }
 {}
 
-/// Each state that version 1 reaches is one that the machine reaches by the rule under which a unit may
-/// change its lead account. There each request that version 1 doesn't refuse with 39 or 40 has the answer
-/// of version 1, and leaves the same state.
+/// Each state that version 1 reaches is one that the office reaches. There each request that version 1
+/// doesn't refuse with 39 or 40 has the answer of version 1, and leaves the same state.
 pub fn version_one_goes_on()
     ensures { VersionOneGoesOn }
-{}
-
-/// The office refuses as version 1 did. Each state that it reaches is one that version 1 reaches. There each
-/// request has the answer of version 1, and leaves the same state.
-pub fn office_is_of_version_one()
-    ensures { OfficeIsOfVersionOne }
 {}

@@ -8,18 +8,19 @@ use Rattle.hh_rows.specs.Keys.{contract_key_cmp, reallocation_key_cmp, settlemen
 use Rattle.hh_rows.specs.declared.rows.Row.{Row}
 use Rattle.hh_rows.specs.declared.rows.Row.TheVariants as row
 use Rattle.hh_rows.specs.declared.rows.UnitRegistration.{UnitRegistration}
-use Rattle.hh_registrations.specs.Registrations.{Leads, leads_after}
+use Rattle.hh_registrations.specs.Registrations.{RegistrationsView, with_unit_row}
 use Rattle.hh_rules.specs.Entries.{contract_entry, meter_entry, party_entry, price_entry, reallocation_entry, unit_entry}
 use Rattle.hh_rules.specs.History.{Registered}
-use Rattle.hh_states.specs.Changes.{LoadChangeView, leads_through, put_row, put_rows, registered_with}
+use Rattle.hh_rules.specs.Leads.{registered_units}
+use Rattle.hh_states.specs.Changes.{LoadChangeView, leads_through, put_row, put_rows, registered_with, units_through}
 use Rattle.hh_plain_tables.specs.declared.changed_tables.ChangedTables.{ChangedTables}
-use Rattle.hh_plain_tables.specs.steps.KeptTables.{leads_after_units, with_changed}
+use Rattle.hh_plain_tables.specs.steps.KeptTables.{after_units, with_changed}
 
 -- the tables, with the entries of the rows put into each
 abbrev by_table : List Row → Registered → Registered
 by_table rows tables = record {
   parties = put_all bytes_cmp (filter_map party_entry rows) tables.parties;
-  units = put_all bytes_cmp (filter_map unit_entry rows) tables.units;
+  units = tables.units;
   leads = tables.leads;
   references = tables.references;
   meters = put_all unit_period_cmp (filter_map meter_entry rows) tables.meters;
@@ -38,51 +39,55 @@ put_rows_by_table (row.Price r ∷ rows) tables = put_rows_by_table rows (put_ro
 put_rows_by_table (row.Contract r ∷ rows) tables = put_rows_by_table rows (put_row (row.Contract r) tables)
 put_rows_by_table (row.Reallocation r ∷ rows) tables = put_rows_by_table rows (put_row (row.Reallocation r) tables)
 
--- the registrations of units after rows are those after the rows of units among them
-through_units : (rows : List Row) (leads : Leads) → leads_after_units (filter_map unit_entry rows) leads ≡ leads_through rows leads
-through_units [] leads = refl
-through_units (row.Party r ∷ rows) leads = through_units rows leads
-through_units (row.Unit r ∷ rows) leads = through_units rows (leads_after r leads)
-through_units (row.Meter r ∷ rows) leads = through_units rows leads
-through_units (row.Price r ∷ rows) leads = through_units rows leads
-through_units (row.Contract r ∷ rows) leads = through_units rows leads
-through_units (row.Reallocation r ∷ rows) leads = through_units rows leads
+-- what is registered of units after rows is what it is after the rows of units among them
+through_units : (rows : List Row) (registered : RegistrationsView)
+    → after_units (filter_map unit_entry rows) registered ≡ record { units = units_through rows registered.units; leads = leads_through rows registered.leads }
+through_units [] registered = refl
+through_units (row.Party r ∷ rows) registered = through_units rows registered
+through_units (row.Unit r ∷ rows) registered = through_units rows (with_unit_row r registered)
+through_units (row.Meter r ∷ rows) registered = through_units rows registered
+through_units (row.Price r ∷ rows) registered = through_units rows registered
+through_units (row.Contract r ∷ rows) registered = through_units rows registered
+through_units (row.Reallocation r ∷ rows) registered = through_units rows registered
 
 -- one more row of units
-after_units-append : (units : List (List ℕ × UnitRegistration)) (u : List ℕ × UnitRegistration) (leads : Leads)
-    → leads_after_units (units ++ u ∷ []) leads ≡ leads_after (record { unit = u.0; registration = u.1 }) (leads_after_units units leads)
-after_units-append [] u leads = refl
-after_units-append (x ∷ units) u leads = after_units-append units u (leads_after (record { unit = x.0; registration = x.1 }) leads)
+after_units-append : (units : List (List ℕ × UnitRegistration)) (u : List ℕ × UnitRegistration) (registered : RegistrationsView)
+    → after_units (units ++ u ∷ []) registered ≡ with_unit_row (record { unit = u.0; registration = u.1 }) (after_units units registered)
+after_units-append [] u registered = refl
+after_units-append (x ∷ units) u registered = after_units-append units u (with_unit_row (record { unit = x.0; registration = x.1 }) registered)
 
--- the registrations after the rows of units so far, and one more
+-- what is registered of units after the rows so far, and one more
 pub one_more_unit : (units : List (List ℕ × UnitRegistration)) (i : ℕ) (u : List ℕ × UnitRegistration) → i < length units → u ≡ get_or units i u
-    → (leads before after : Leads) → before ≡ leads_after_units (take i units) leads → after ≡ leads_after (record { unit = u.0; registration = u.1 }) before
-    → after ≡ leads_after_units (take (i + 1) units) leads
-one_more_unit units i u inside at leads before after so_far is =
-    is ∙ ap (leads_after (record { unit = u.0; registration = u.1 })) so_far
-    ∙ sym (after_units-append (take i units) u leads)
-    ∙ ap (λ us. leads_after_units us leads) (ap (λ e. take i units ++ e ∷ []) at ∙ sym (take_more units i u inside))
+    → (registered before after : RegistrationsView) → before ≡ after_units (take i units) registered → after ≡ with_unit_row (record { unit = u.0; registration = u.1 }) before
+    → after ≡ after_units (take (i + 1) units) registered
+one_more_unit units i u inside at registered before after so_far is =
+    is ∙ ap (with_unit_row (record { unit = u.0; registration = u.1 })) so_far
+    ∙ sym (after_units-append (take i units) u registered)
+    ∙ ap (λ us. after_units us registered) (ap (λ e. take i units ++ e ∷ []) at ∙ sym (take_more units i u inside))
 
 -- taking over the tables that were made anew gives the tables after the load
 pub changed_with : (w : LoadChangeView) (tables : Registered) (changed : ChangedTables)
     → unwrap_or changed.parties tables.parties ≡ put_all bytes_cmp (filter_map party_entry w.rows) tables.parties
-    → unwrap_or changed.units tables.units ≡ put_all bytes_cmp (filter_map unit_entry w.rows) tables.units
-    → unwrap_or changed.leads tables.leads ≡ leads_after_units (filter_map unit_entry w.rows) tables.leads
+    → unwrap_or changed.units (registered_units tables) ≡ after_units (filter_map unit_entry w.rows) (registered_units tables)
     → unwrap_or changed.references tables.references ≡ put_all bytes_cmp w.references tables.references
     → unwrap_or changed.meters tables.meters ≡ put_all unit_period_cmp (filter_map meter_entry w.rows) tables.meters
     → unwrap_or changed.prices tables.prices ≡ put_all settlement_period_cmp (filter_map price_entry w.rows) tables.prices
     → unwrap_or changed.contracts tables.contracts ≡ put_all contract_key_cmp (filter_map contract_entry w.rows) tables.contracts
     → unwrap_or changed.reallocations tables.reallocations ≡ put_all reallocation_key_cmp (filter_map reallocation_entry w.rows) tables.reallocations
     → with_changed changed tables ≡ registered_with w tables
-changed_with w tables changed parties units leads references meters prices contracts reallocations =
+changed_with w tables changed parties units references meters prices contracts reallocations =
     (λ i. record {
       parties = parties i;
-      units = units i;
-      leads = (leads ∙ through_units w.rows tables.leads) i;
+      units = ((units ∙ through_units w.rows (registered_units tables)) i).units;
+      leads = ((units ∙ through_units w.rows (registered_units tables)) i).leads;
       references = references i;
       meters = meters i;
       prices = prices i;
       contracts = contracts i;
       reallocations = reallocations i;
     })
-    ∙ ap (λ (t : Registered). record t { references = put_all bytes_cmp w.references tables.references; leads = leads_through w.rows tables.leads }) (sym (put_rows_by_table w.rows tables))
+    ∙ ap (λ (t : Registered). record t {
+      references = put_all bytes_cmp w.references tables.references;
+      units = units_through w.rows tables.units;
+      leads = leads_through w.rows tables.leads;
+    }) (sym (put_rows_by_table w.rows tables))

@@ -2,14 +2,15 @@
 
 ghost use Rattle.std.specs.Prelude.{◌≡◌, unwrap_or, IfOk};
 ghost use Rattle.hh_tables.specs.Tables.{put_all};
+ghost use Rattle.hh_rules.specs.Leads.{registered_units};
 ghost use Rattle.hh_states.specs.Changes.{registered_with};
-ghost use Rattle.hh_plain_tables.specs.steps.KeptTables.{leads_after_units, with_changed};
+ghost use Rattle.hh_plain_tables.specs.steps.KeptTables.{after_units, with_changed, with_units};
 
 use crate::entries::{contracts_of, meters_of, parties_of, prices_of, reallocations_of, units_of};
 use hh_kept_rows::{KeptRegister, LoadChange};
 use hh_names::{Counterparties, PartyId, Reading, Reallocation, Reference, UnitId};
 use hh_num::{Kwh, Price};
-use hh_registrations::LeadTable;
+use hh_registrations::Registrations;
 use hh_rows::{
     ContractKey, PartyRegistration, ReallocationKey, SettlementPeriod, UnitPeriod,
     UnitRegistration, UnitRow,
@@ -21,8 +22,8 @@ use std::alloc::{AllocError, Global};
 #[derive(Drop)]
 pub(crate) struct ChangedTables {
     pub(crate) parties: Option<ListTable<PartyId, PartyRegistration>>,
-    pub(crate) units: Option<ListTable<UnitId, UnitRegistration>>,
-    pub(crate) leads: Option<LeadTable>,
+    /// The units, and their registrations.
+    pub(crate) units: Option<Registrations>,
     pub(crate) references: Option<ListTable<Reference, Counterparties>>,
     pub(crate) meters: Option<ListTable<UnitPeriod, Reading>>,
     pub(crate) prices: Option<ListTable<SettlementPeriod, Price>>,
@@ -41,10 +42,9 @@ pub(crate) fn changed_by(
 {
     let rows = change.rows();
     let fixed = Vec::from_slice(alloc, change.references())?;
-    let registered = units_of(alloc, rows)?;
+    let of_units = units_of(alloc, rows)?;
     let parties = with_entries(alloc, &register.parties, parties_of(alloc, rows)?)?;
-    let leads = with_units(alloc, &register.leads, &registered)?;
-    let units = with_entries(alloc, &register.units, registered)?;
+    let units = with_units(alloc, register, &of_units)?;
     let references = with_entries(alloc, &register.references, fixed)?;
     let meters = with_entries(alloc, &register.meters, meters_of(alloc, rows)?)?;
     let prices = with_entries(alloc, &register.prices, prices_of(alloc, rows)?)?;
@@ -57,7 +57,6 @@ pub(crate) fn changed_by(
     Ok(ChangedTables {
         parties,
         units,
-        leads,
         references,
         meters,
         prices,
@@ -71,8 +70,7 @@ pub(crate) fn take_over(register: &mut KeptRegister, changed: ChangedTables)
     ensures { register.new ≡ with_changed changed register.old }
 {
     take_table(&mut register.parties, changed.parties);
-    take_table(&mut register.units, changed.units);
-    take_leads(&mut register.leads, changed.leads);
+    take_units(register, changed.units);
     take_table(&mut register.references, changed.references);
     take_table(&mut register.meters, changed.meters);
     take_table(&mut register.prices, changed.prices);
@@ -95,32 +93,35 @@ fn with_entries<K: Ord + Copy, V: Copy>(
     Ok(Some(table.with_rows(alloc, entries)?))
 }
 
-/// The registrations of units after rows of units, one after the other, made anew, if there are rows.
+/// What is registered of units after rows of units, one after the other, made anew, if there are rows.
 fn with_units(
     alloc: Global,
-    leads: &LeadTable,
-    units: &[(UnitId, UnitRegistration)],
-) -> Result<Option<LeadTable>, AllocError>
-    ensures { IfOk result (λ changed.
-        unwrap_or changed leads.now ≡ leads_after_units units.now leads.now) }
+    register: &KeptRegister,
+    rows: &[(UnitId, UnitRegistration)],
+) -> Result<Option<Registrations>, AllocError>
+    ensures { IfOk result (λ changed. unwrap_or changed (registered_units register.now)
+        ≡ after_units rows.now (registered_units register.now)) }
 {
-    if units.is_empty() {
+    if rows.is_empty() {
         return Ok(None);
     }
-    let mut changed = leads.copied(alloc)?;
-    for row in units {
+    let units = register.units.with_rows(alloc, Vec::new(alloc))?;
+    let mut changed = Registrations::of(units, register.leads.copied(alloc)?);
+    for row in rows {
         let (unit, registration) = *row;
         changed.put(&UnitRow { unit, registration })?;
     }
     Ok(Some(changed))
 }
 
-/// Takes over registrations of units that were made anew, if they were.
-fn take_leads(leads: &mut LeadTable, changed: Option<LeadTable>)
-    ensures { leads.new ≡ unwrap_or changed leads.old }
+/// Takes over what is registered of units, if it was made anew.
+fn take_units(register: &mut KeptRegister, changed: Option<Registrations>)
+    ensures { register.new ≡ with_units changed register.old }
 {
     if let Some(changed) = changed {
-        *leads = changed;
+        let (units, leads) = changed.into_tables();
+        register.units = units;
+        register.leads = leads;
     }
 }
 

@@ -8,6 +8,7 @@ use Rattle.std.specs.Prelude.{◌-◌, nat_eq, nat_lt, filter, is_some, not, ◌
 use Rattle.std.specs.Cmp.{Equal-is, eq_by_cmp_equiv}
 use Rattle.std.specs.FinMap.{find, put, is_sorted}
 use Rattle.std.specs.FinMap.Entries.{by_order, find-put, is_sorted-put, same_entries}
+use Rattle.std.specs.List.{cons_option}
 use Rattle.std.specs.Ordering.{eq_by_cmp}
 use Rattle.std.specs.declared.cmp.Ordering.TheVariants.{Less, Equal, Greater}
 use Rattle.std.proofs.lemmas.Bool.{le-leb}
@@ -20,6 +21,7 @@ use Rattle.hh_tables.proofs.WithoutLaws.{find-without, sorted-without}
 use Rattle.hh_names.specs.Accounts.{bytes_cmp}
 use Rattle.hh_names.proofs.AccountLaws.{bytes_total}
 use Rattle.hh_time.specs.Days.{last_date}
+use Rattle.hh_rows.specs.DateRanges.{Range}
 use Rattle.hh_rows.specs.Keys.{lead_key_cmp}
 use Rattle.hh_rows.specs.declared.keys.LeadKey.{LeadKey}
 use Rattle.hh_rows.specs.declared.rows.LeadTerm.{LeadTerm}
@@ -30,9 +32,9 @@ use Rattle.hh_rows.proofs.KeyLaws.{exact_lead_keys, lead_key_total}
 use Rattle.hh_registrations.specs.declared.changes.FormerLead.{FormerLead}
 use Rattle.hh_registrations.specs.declared.changes.FormerLead.TheVariants as former
 use Rattle.hh_registrations.specs.declared.changes.LeadChange.{LeadChange}
-use Rattle.hh_registrations.specs.Registrations.{BeginByLastDate, Lead, Leads, beside_former, former_lead, is_begun, is_of_unit, is_succession, last_begun, last_registration, lead_change, leads_after, leads_with, leads_with_row}
-use Rattle.hh_registrations.specs.LeadSteps.{steps_of_row, steps_of_rows}
-use Rattle.hh_registrations.specs.declared.lead_steps.LeadStep.{LeadStep}
+use Rattle.hh_registrations.specs.Registrations.{BeginByLastDate, Lead, Leads, beside_former, former_lead, is_begun, is_of_unit, is_succession, last_begun, last_registration, RegistrationsView, lead_change, leads_after, leads_with, leads_with_row, registrations_with, succession_range, succession_ranges}
+use Rattle.hh_registrations.specs.UnitSteps.{steps_of_row, steps_of_rows}
+use Rattle.hh_registrations.specs.declared.unit_steps.UnitStep.{UnitStep}
 use Rattle.hh_registrations.specs.steps.Dates.{AreInOrder}
 
 -- ---- a registration put before another is taken out
@@ -171,12 +173,12 @@ last_is_begun leads unit all = ap last_of (alike leads all)
 -- ---- what the code computes
 
 -- a change made of its parts
-pub change_is : (leads : Leads) (r : UnitRow) → BeginByLastDate leads
-    → (last : Option Lead) → last ≡ last_begun leads r.unit last_date → (changed : FormerLead) → changed ≡ former_lead last r.registration
+pub change_is : (leads : Leads) (r : UnitRow)
+    → (last : Option Lead) → last ≡ last_registration leads r.unit → (changed : FormerLead) → changed ≡ former_lead last r.registration
     → (ends : ℕ × ℕ) → ends ≡ (r.registration.range.from, r.registration.range.to)
     → record { former = changed; key = record { unit = r.unit; from = ends.0 }; term = record { lead = r.registration.lead; to = ends.1 } } ≡ lead_change leads r
-change_is leads r dated last is changed then ends are = λ i. record {
-  former = (then ∙ ap (λ o. former_lead o r.registration) (is ∙ last_is_begun leads r.unit dated)) i;
+change_is leads r last is changed then ends are = λ i. record {
+  former = (then ∙ ap (λ o. former_lead o r.registration) is) i;
   key = record { unit = r.unit; from = (are i).0 };
   term = record { lead = r.registration.lead; to = (are i).1 };
 }
@@ -230,12 +232,25 @@ pub put_next : (rows : Leads) (i : ℕ) (e : Lead) → i < length rows → e ≡
 put_next rows i e low is = put_behind (take i rows) e [] ∙ ap (λ rs. put_all lead_key_cmp rs []) (sym (taken_next rows i e low is))
 
 -- one more row: its steps come behind the steps so far
-pub steps_more : (steps : List LeadStep) (rows : List Row) (i : ℕ) (r : Row) (held : Leads) (all : List LeadStep) → i < length rows → r ≡ get_or rows i r
-    → steps ++ steps_of_rows (drop i rows) held ≡ all → (steps ++ steps_of_row r held) ++ steps_of_rows (drop (i + 1) rows) (leads_with_row r held) ≡ all
+pub steps_more : (steps : List UnitStep) (rows : List Row) (i : ℕ) (r : Row) (held : RegistrationsView) (all : List UnitStep) → i < length rows → r ≡ get_or rows i r
+    → steps ++ steps_of_rows (drop i rows) held ≡ all → (steps ++ steps_of_row r held) ++ steps_of_rows (drop (i + 1) rows) (registrations_with r held) ≡ all
 steps_more steps rows i r held all low is kept =
     append_assoc steps (steps_of_row r held) _
     ∙ ap (λ rs. steps ++ steps_of_rows rs held) (sym (next_of rows i r low is))
     ∙ kept
+
+-- and its dates, if it is a succession, behind those of the successions so far
+pub ranges_more : (ranges : List Range) (rows : List Row) (i : ℕ) (r : Row) (held : Leads) (all : List Range) → i < length rows → r ≡ get_or rows i r
+    → ranges ++ succession_ranges (drop i rows) held ≡ all → (ranges ++ cons_option (succession_range r held) []) ++ succession_ranges (drop (i + 1) rows) (leads_with_row r held) ≡ all
+ranges_more ranges rows i r held all low is kept =
+    append_assoc ranges (cons_option (succession_range r held) []) _
+    ∙ ap (λ rs. ranges ++ rs) (sym (in_front (succession_range r held) (succession_ranges (drop (i + 1) rows) (leads_with_row r held))))
+    ∙ ap (λ rs. ranges ++ succession_ranges rs held) (sym (next_of rows i r low is))
+    ∙ kept
+  where
+    in_front : (o : Option Range) (more : List Range) → cons_option o more ≡ cons_option o [] ++ more
+    in_front None more = refl
+    in_front (Some range) more = refl
 
 -- if all registrations begin by the last accepted date, so does each
 pub begun_at : (rows : Leads) (i : ℕ) (e : Lead) → i < length rows → e ≡ get_or rows i e → BeginByLastDate rows → e.0.from ≤ last_date

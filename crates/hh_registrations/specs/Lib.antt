@@ -1,3 +1,3 @@
-pub mod LeadSteps
 pub mod Registrations
+pub mod UnitSteps
 pub mod steps

@@ -1,6 +1,6 @@
 -- The registrations of units: which account leads a unit from which date to which, and what a row of units makes of them.
-use Rattle.std.specs.List.{AllByRecursion}
-use Rattle.std.specs.Prelude.{ℕ, ◌-◌, ◌≤◌, nat_le, nat_lt, List, [], filter, map, Bool, not, ◌&&◌, Option, Some, None, option_map, if◌then◌else◌}
+use Rattle.std.specs.List.{AllByRecursion, cons_option}
+use Rattle.std.specs.Prelude.{ℕ, ◌-◌, ◌≤◌, nat_le, nat_lt, List, [], ◌∷◌, filter, map, Bool, not, ◌&&◌, Option, Some, None, option_map, if◌then◌else◌}
 use Rattle.std.specs.FinMap.{find, put}
 use Rattle.std.specs.Ordering.{eq_by_cmp}
 use Rattle.hh_tables.specs.Ends.{last_of}
@@ -8,7 +8,7 @@ use Rattle.hh_tables.specs.Tables.{Table, without}
 use Rattle.hh_names.specs.declared.account.Account.{Account}
 use Rattle.hh_names.specs.Accounts.{bytes_cmp, is_same_account}
 use Rattle.hh_time.specs.Days.{last_date}
-use Rattle.hh_rows.specs.DateRanges.{begun_by}
+use Rattle.hh_rows.specs.DateRanges.{Range, begun_by}
 use Rattle.hh_rows.specs.Keys.{lead_key_cmp}
 use Rattle.hh_rows.specs.declared.keys.LeadKey.{LeadKey}
 use Rattle.hh_rows.specs.declared.rows.LeadTerm.{LeadTerm}
@@ -103,6 +103,11 @@ former_lead (Some last) new =
     if is_succession last new && nat_lt last.0.from new.range.from then former.Ended last.0 (record last.1 { to = new.range.from - 1 })
     else former.Replaced last.0
 
+-- the dates of a row with this registration, if it succeeds this last registration of its unit
+abbrev pub succession_dates : UnitRegistration → Option Lead → Option Range
+succession_dates new None = None
+succession_dates new (Some last) = if is_succession last new then Some new.range else None
+
 -- what is registered of the unit: lead account, mark and last date are the row's, and the first date is the earliest of its rows
 abbrev pub widened : Option UnitRegistration → UnitRegistration → UnitRegistration
 widened None new = new
@@ -142,9 +147,28 @@ abbrev pub leads_with_row : Row → Leads → Leads
 leads_with_row (row.Unit r) leads = leads_after r leads
 leads_with_row _ leads = leads
 
+-- what is registered of each unit after a row: only rows of units change it
+abbrev pub units_with_row : Row → Table (List ℕ) UnitRegistration → Table (List ℕ) UnitRegistration
+units_with_row (row.Unit r) units = put bytes_cmp r.unit (widened (find bytes_cmp r.unit units) r.registration) units
+units_with_row _ units = units
+
+-- what is registered of units after a row: only rows of units change it
+abbrev pub registrations_with : Row → RegistrationsView → RegistrationsView
+registrations_with r registered = record { units = units_with_row r registered.units; leads = leads_with_row r registered.leads }
+
 -- what is registered of units after a row of units
 abbrev pub with_unit_row : UnitRow → RegistrationsView → RegistrationsView
 with_unit_row r registered = record {
   units = put bytes_cmp r.unit (unit_change registered r).registration registered.units;
   leads = leads_after r registered.leads;
 }
+
+-- the dates of a row, if it is a succession
+abbrev pub succession_range : Row → Leads → Option Range
+succession_range (row.Unit r) leads = succession_dates r.registration (last_registration leads r.unit)
+succession_range _ leads = None
+
+-- the dates of the successions among rows; each row is judged by the registrations after the rows before it
+abbrev pub succession_ranges : List Row → Leads → List Range
+succession_ranges [] leads = []
+succession_ranges (r ∷ rows) leads = cons_option (succession_range r leads) (succession_ranges rows (leads_with_row r leads))

@@ -1,2 +1,3 @@
 -- Definitions that only contracts of private functions use, for the steps of proofs. No public contract depends on them.
+pub mod Changes
 pub mod Dates

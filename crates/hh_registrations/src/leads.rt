@@ -1,11 +1,11 @@
 //! The registrations of all units.
 
-ghost use Rattle.std.specs.Prelude.{◌≡◌, ◌≤◌, [], false, IfOk, IsTrue, OnErr, OnOk, option_map};
+ghost use Rattle.std.specs.Prelude.{◌≡◌, ◌≤◌, [], false, IfOk, IfSome, IsSome, IsTrue, OnErr, OnOk, option_map};
 ghost use Rattle.std.specs.FinMap.{put};
-ghost use Rattle.hh_tables.specs.Tables.{IsTable};
+ghost use Rattle.hh_tables.specs.Tables.{IsTable, put_all};
 ghost use Rattle.hh_time.specs.Days.{last_date};
 ghost use Rattle.hh_rows.specs.Keys.{lead_key_cmp};
-ghost use Rattle.hh_registrations.specs.Registrations.{last_begun, lead_change, leads_after, leads_with, registration_on};
+ghost use Rattle.hh_registrations.specs.Registrations.{BeginByLastDate, last_begun, last_registration, lead_change, leads_after, leads_with, registration_on};
 
 use crate::changes::{FormerLead, LeadChange, former_lead};
 use hh_names::{Account, UnitId};
@@ -55,9 +55,28 @@ impl LeadTable {
         Ok(LeadTable { rows: copy })
     }
 
+    /// These registrations. Of several with one key the last counts. `None` if one begins after the last
+    /// accepted date. `Err` only if memory is refused.
+    pub fn of_rows(
+        alloc: Global,
+        rows: &[(LeadKey, LeadTerm)],
+    ) -> Result<Option<LeadTable>, AllocError>
+        ensures rows { IfOk result
+            (λ table. IfSome table (λ t. t ≡ put_all lead_key_cmp rows.now [])) }
+        ensures accepted { BeginByLastDate rows.now → IfOk result IsSome }
+    {
+        let mut table = LeadTable::new(alloc);
+        for row in rows {
+            if !table.put_row(row)? {
+                return Ok(None);
+            }
+        }
+        Ok(Some(table))
+    }
+
     /// Puts a registration, replacing the one of its key. `false` if it begins after the last accepted date:
     /// the registrations are then as they were. `Err` only if memory is refused.
-    pub(crate) fn put_row(&mut self, row: &(LeadKey, LeadTerm)) -> Result<bool, AllocError>
+    fn put_row(&mut self, row: &(LeadKey, LeadTerm)) -> Result<bool, AllocError>
         ensures put { IfOk result (λ is_put. IsTrue is_put
             → self.new ≡ put lead_key_cmp row.now.0 row.now.1 self.old) }
         ensures accepted { row.now.0.from ≤ last_date → IfOk result IsTrue }
@@ -83,6 +102,14 @@ impl LeadTable {
         }
     }
 
+    /// The last registration of a unit, if it has one (profile).
+    pub fn last(&self, unit: &UnitId) -> Option<(LeadKey, LeadTerm)>
+        ensures last { result ≡ last_registration self.now unit.now }
+        ensures rising { IsTable lead_key_cmp self.now }
+    {
+        last_begun(&self.rows, unit, SettlementDate::last())
+    }
+
     /// What a row of units changes in the registrations (profile).
     pub fn change_of(&self, row: &UnitRow) -> LeadChange
         ensures change { result ≡ lead_change self.now row.now }
@@ -90,9 +117,8 @@ impl LeadTable {
         ensures rising { IsTable lead_key_cmp self.now }
     {
         let (from, to) = row.registration.range.ends();
-        let last = last_begun(&self.rows, &row.unit, SettlementDate::last());
         LeadChange {
-            former: former_lead(last, row.registration),
+            former: former_lead(self.last(&row.unit), row.registration),
             key: LeadKey {
                 unit: row.unit,
                 from,

@@ -1,14 +1,14 @@
 //! What is registered of units, with all their registrations.
 
 ghost use Rattle.std.specs.Prelude.{◌≡◌, OnErr, OnOk};
-ghost use Rattle.std.specs.FinMap.{find};
+ghost use Rattle.std.specs.FinMap.{find, put};
 ghost use Rattle.hh_names.specs.Accounts.{bytes_cmp};
-ghost use Rattle.hh_registrations.specs.Registrations.{no_registrations, registered_lead_on, unit_change, with_unit_row};
+ghost use Rattle.hh_registrations.specs.Registrations.{last_registration, no_registrations, registered_lead_on, unit_change, with_unit_row};
 
 use crate::changes::{UnitChange, widened};
 use crate::leads::LeadTable;
 use hh_names::{Account, UnitId};
-use hh_rows::{UnitRegistration, UnitRow};
+use hh_rows::{LeadKey, LeadTerm, UnitRegistration, UnitRow};
 use hh_tables::ListTable;
 use hh_time::SettlementDate;
 use std::alloc::{AllocError, Global};
@@ -18,6 +18,8 @@ use std::marker::Model;
 /// from which date to which each account has led it (profile).
 #[derive(Drop)]
 pub struct Registrations {
+    /// A list, so that a unit is found behind one that was asked for before. A unit that is put in the
+    /// middle moves all behind it. That is cheap enough only because there are at most 2,000.
     units: ListTable<UnitId, UnitRegistration>,
     leads: LeadTable,
 }
@@ -41,11 +43,39 @@ impl Registrations {
         }
     }
 
+    /// What these tables register of units.
+    pub fn of(units: ListTable<UnitId, UnitRegistration>, leads: LeadTable) -> Registrations
+        ensures { result ≡ record { units = units; leads = leads } }
+    {
+        Registrations { units, leads }
+    }
+
+    /// The tables of units and of their registrations.
+    pub fn into_tables(self) -> (ListTable<UnitId, UnitRegistration>, LeadTable)
+        ensures { result ≡ (self.units, self.leads) }
+    {
+        (self.units, self.leads)
+    }
+
     /// What is registered of a unit, if it is registered.
     pub fn unit(&self, unit: &UnitId) -> Option<UnitRegistration>
         ensures { result ≡ find bytes_cmp unit.now self.now.units }
     {
         self.units.get(unit)
+    }
+
+    /// What is registered of each unit.
+    pub fn units(&self) -> &ListTable<UnitId, UnitRegistration>
+        ensures { result.now ≡ self.now.units }
+    {
+        &self.units
+    }
+
+    /// The last registration of a unit, if it has one (profile).
+    pub fn last(&self, unit: &UnitId) -> Option<(LeadKey, LeadTerm)>
+        ensures { result ≡ last_registration self.now.leads unit.now }
+    {
+        self.leads.last(unit)
     }
 
     /// The account that leads a unit on a date, if one does (profile).
@@ -79,5 +109,26 @@ impl Registrations {
             return Err(refused);
         }
         Ok(())
+    }
+
+    /// Puts what is registered of a unit, in the place of what was. Changes none of its registrations.
+    /// `Err` only if memory is refused: all is then as it was.
+    pub fn hold_unit(
+        &mut self,
+        unit: UnitId,
+        registration: UnitRegistration,
+    ) -> Result<(), AllocError>
+        ensures ok { OnOk result (self.new
+            ≡ record self.old { units = put bytes_cmp unit registration self.old.units }) }
+        ensures err { OnErr result (self.new ≡ self.old) }
+    {
+        self.units.put_row(unit, registration)
+    }
+
+    /// Puts these registrations in the place of all that were.
+    pub fn hold_leads(&mut self, leads: LeadTable)
+        ensures { self.new ≡ record self.old { leads = leads } }
+    {
+        self.leads = leads;
     }
 }

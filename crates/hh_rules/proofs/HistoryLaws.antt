@@ -1,17 +1,22 @@
 -- Two ways to the same tables: looking back over a history with one more row, or changing the tables by the row.
-use Rattle.std.proofs.Common.{◌≡◌, List, [], ◌∷◌, ◌++◌, Bool, true, false, cond, refl, ap, ◌∙◌, Option, Some, None, Ordering}
-use Rattle.std.specs.Prelude.{filter, option_to_list}
+use Rattle.std.proofs.Common.{◌≡◌, ℕ, List, [], ◌∷◌, ◌++◌, Bool, true, false, cond, refl, ap, ◌∙◌, Option, Some, None, Ordering}
+use Rattle.std.specs.Prelude.{filter, option_to_list, T}
 use Rattle.std.specs.declared.cmp.Ordering.TheVariants.{Equal}
 use Rattle.std.specs.Cmp.{IsTotalOrder}
+use Rattle.std.specs.FinMap.{find, is_sorted}
+use Rattle.std.specs.FinMap.Entries.{is_sorted-put}
 use Rattle.std.specs.List.{cons_option}
 use Rattle.std.proofs.lemmas.List.{append-nil}
 use Rattle.hh_rows.specs.declared.rows.Row.{Row}
-use Rattle.hh_registrations.specs.Registrations.{Leads}
-use Rattle.hh_rules.specs.History.{History, entries_of, leads_from, leads_with_row, registered_in}
+use Rattle.hh_rows.specs.declared.rows.Row.TheVariants as row
+use Rattle.hh_rows.specs.declared.rows.UnitRegistration.{UnitRegistration}
+use Rattle.hh_registrations.specs.Registrations.{Leads, widened}
+use Rattle.hh_rules.specs.History.{History, entries_of, leads_from, leads_with_row, registered_in, units_from, units_with_row}
 use Rattle.hh_rules.specs.Lateness.{Timetable, Accepted, is_in_time}
-use Rattle.hh_rules.specs.Entries.{party_entry, unit_entry, reference_entry, meter_entry, price_entry, contract_entry, reallocation_entry}
+use Rattle.hh_rules.specs.Entries.{party_entry, reference_entry, meter_entry, price_entry, contract_entry, reallocation_entry}
 use Rattle.hh_rules.specs.Effects.{put_entry, put_in_time, put_new, with_row}
-use Rattle.hh_tables.specs.Tables.{table_of_last, table_of_first}
+use Rattle.hh_tables.specs.Tables.{Table, table_of_last, table_of_first}
+use Rattle.hh_names.specs.Accounts.{bytes_cmp}
 use Rattle.hh_names.proofs.AccountLaws.{bytes_total}
 use Rattle.hh_rows.proofs.KeyLaws.{settlement_period_total, unit_period_total, contract_key_total, reallocation_key_total, exact_settlement_periods, exact_unit_periods, exact_contract_keys, exact_reallocation_keys}
 use Rattle.hh_tables.proofs.TableLaws.{table_of_last-append, table_of_first-append}
@@ -77,6 +82,24 @@ module _ {K V : Type 0} {R : K → K → Ordering} (o : IsTotalOrder R) (exact :
       ∙ ap (table_of_last R) (entries_if (is_in_time timetable a) in_time a)
       ∙ with_entries_if (is_in_time timetable a) (entries_of entry in_time) (entry a.row)
 
+-- what is registered of each unit, after one more row
+pub units-append : (units : Table (List ℕ) UnitRegistration) (history : History) (a : Accepted) → units_from units (history ++ a ∷ []) ≡ units_with_row a.row (units_from units history)
+units-append units [] a = refl
+units-append units (x ∷ history) a = units-append (units_with_row x.row units) history a
+
+-- units rise in the order of their ids
+pub unit_row-rises : (r : Row) (units : Table (List ℕ) UnitRegistration) → T (is_sorted bytes_cmp units) → T (is_sorted bytes_cmp (units_with_row r units))
+unit_row-rises (row.Unit r) units rising = is_sorted-put bytes_cmp bytes_total r.unit (widened (find bytes_cmp r.unit units) r.registration) units rising
+unit_row-rises (row.Party r) units rising = rising
+unit_row-rises (row.Meter r) units rising = rising
+unit_row-rises (row.Price r) units rising = rising
+unit_row-rises (row.Contract r) units rising = rising
+unit_row-rises (row.Reallocation r) units rising = rising
+
+pub units-rise : (units : Table (List ℕ) UnitRegistration) (history : History) → T (is_sorted bytes_cmp units) → T (is_sorted bytes_cmp (units_from units history))
+units-rise units [] rising = rising
+units-rise units (a ∷ history) rising = units-rise (units_with_row a.row units) history (unit_row-rises a.row units rising)
+
 -- the registrations of units, after one more row
 pub leads-append : (leads : Leads) (history : History) (a : Accepted) → leads_from leads (history ++ a ∷ []) ≡ leads_with_row a.row (leads_from leads history)
 leads-append leads [] a = refl
@@ -86,7 +109,7 @@ pub looks_back : (timetable : Timetable) (history : History) (a : Accepted)
     → registered_in timetable (history ++ a ∷ []) ≡ with_row (is_in_time timetable a) a.row (registered_in timetable history)
 looks_back timetable history a = λ i. record {
   parties = last-append bytes_total exact_bytes party_entry history a i;
-  units = last-append bytes_total exact_bytes unit_entry history a i;
+  units = units-append [] history a i;
   leads = leads-append [] history a i;
   references = first-append bytes_total exact_bytes reference_entry history a i;
   meters = last-append unit_period_total exact_unit_periods meter_entry history a i;

@@ -63,7 +63,7 @@ pub accepted_has_room : (standing : Standing) (timing : Timing) (r : Row) → fi
 accepted_has_room standing timing (row.Party r) none =
     below (find bytes_cmp r.party standing.tables.parties) most_parties standing.party_count (none_met (party_refusals standing r) none).1.0
 accepted_has_room standing timing (row.Unit r) none =
-    below (find bytes_cmp r.unit standing.tables.units) most_units standing.unit_count (none_met (unit_refusals standing r) none).1.1.1.1.0
+    below (find bytes_cmp r.unit standing.tables.units) most_units standing.unit_count (none_met (unit_refusals standing r) none).1.1.1.1.1.0
 accepted_has_room standing timing (row.Meter r) none = tt
 accepted_has_room standing timing (row.Price r) none = tt
 accepted_has_room standing timing (row.Contract r) none = tt

@@ -8,5 +8,6 @@ pub mod RowLaws
 pub mod ServingLaws
 pub mod StandingLaws
 pub mod SumFacts
+mod WalkLaws
 pub use Rattle.hh_tables.proofs.TableLaws
 pub use Rattle.hh_names.proofs.AccountLaws

@@ -6,7 +6,9 @@ use Rattle.std.proofs.lemmas.List.Elements.{All-head, All-tail}
 use Rattle.std.specs.FinMap.{find, put, is_sorted}
 use Rattle.std.specs.FinMap.Entries.{find-put, is_sorted-put}
 use Rattle.jiff.specs.declared.tz.timezone.TimeZone.{TimeZone}
+use Rattle.std.specs.List.{list_any}
 use Rattle.std.specs.Ordering.{eq_by_cmp}
+use Rattle.std.proofs.Math.Bool.{and_assoc}
 use Rattle.hh_tables.specs.Tables.{Table, IsTable}
 use Rattle.hh_tables.proofs.FilterLaws.{filter-put, rising_of}
 use Rattle.hh_rows.specs.Totals.{total}
@@ -20,29 +22,26 @@ use Rattle.hh_names.specs.Faults.{first_met}
 use Rattle.hh_rows.specs.DateRanges.{holds, is_inside}
 use Rattle.hh_rows.specs.Keys.{reallocation_key_cmp, unit_period_cmp}
 use Rattle.hh_rows.proofs.KeyLaws.{contract_key_total, exact_reallocation_keys, reallocation_key_total, settlement_period_total, unit_period_total}
-use Rattle.hh_rows.specs.declared.keys.UnitPeriod.{UnitPeriod}
 use Rattle.hh_rows.specs.declared.keys.ReallocationKey.{ReallocationKey}
 use Rattle.hh_rows.specs.declared.rows.Row.{Row}
 use Rattle.hh_rows.specs.declared.rows.Row.TheVariants as row
+use Rattle.hh_rows.specs.declared.rows.UnitRow.{UnitRow}
 use Rattle.hh_rows.specs.Quantities.{hundred_percent}
 use Rattle.hh_rules.specs.declared.timing.Timing.{Timing}
-use Rattle.hh_rules.specs.History.{Registered, leads_with_row}
+use Rattle.hh_registrations.specs.Registrations.{is_succession, registration_on, widened}
+use Rattle.hh_rules.specs.History.{Registered, leads_with_row, units_with_row}
 use Rattle.hh_rules.specs.Lateness.{accepted_at, comes_in_time, is_in_time, lacks_period, timing_of}
 use Rattle.hh_rules.specs.Percents.{percent_of_others}
-use Rattle.hh_rules.specs.Refusals.{Standing, is_some_that, is_unit_moved, most_parties, most_units, refusals_of}
+use Rattle.hh_rules.specs.Refusals.{Standing, is_shrunk, is_some_that, is_to_lead_of, is_unit_moved, last_lead, most_parties, most_units, refusals_of}
 use Rattle.hh_rules.specs.Effects.{count_new, put_entry, put_in_time, put_new, with_row}
 use Rattle.hh_rules.specs.Entries.{contract_entry, meter_entry, party_entry, price_entry, reallocation_entry, reference_entry, unit_entry}
-use Rattle.hh_rules.specs.RegisterView.{AgreesOn, JudgesAsWhole, RegisterView, ServesAfter, ServesFor, after_row, in_time_at, judged, judged_at, reallocations_at, refusal_at, register_after, tables_in, timetable_in, timetable_of}
+use Rattle.hh_rules.specs.RegisterView.{AgreesOn, JudgesAsWhole, RegisterView, ServesAfter, ServesFor, after_row, in_time_at, judged, judged_at, reallocations_at, reallocations_of, refusal_at, register_after, tables_in, timetable_in, timetable_of}
 
--- a reallocation is of this unit in this Settlement Period
-abbrev is_at : UnitPeriod → ReallocationKey × Reallocation → Bool
-is_at at e = eq_by_cmp unit_period_cmp e.0.unit_period at
-
--- after an entry in time, the entries of a unit in a Settlement Period: the entry is put if it is one of theirs
-abbrev put_here : UnitPeriod → Bool → Option (ReallocationKey × Reallocation) → Table ReallocationKey Reallocation → Table ReallocationKey Reallocation
-put_here at in_time None rows = rows
-put_here at false (Some e) rows = rows
-put_here at true (Some e) rows = cond (is_at at e) (put reallocation_key_cmp e.0 e.1 rows) rows
+-- after an entry in time, the entries that pass a test: the entry is put if it passes too
+abbrev put_here : (ReallocationKey → Bool) → Bool → Option (ReallocationKey × Reallocation) → Table ReallocationKey Reallocation → Table ReallocationKey Reallocation
+put_here test in_time None rows = rows
+put_here test false (Some e) rows = rows
+put_here test true (Some e) rows = cond (test e.0) (put reallocation_key_cmp e.0 e.1 rows) rows
 
 sorted_table : {K V : Type 0} (R : K → K → Ordering) (es : Table K V) → IsTable R es → T (is_sorted R es)
 sorted_table R es rising = subst T (sym rising) tt
@@ -67,16 +66,40 @@ others_at tables key =
     total-same (λ e. cond (is_here e && is_other e) e.1.percent (pos 0)) (λ e. cond (is_here e) (cond (is_other e) e.1.percent (pos 0)) (pos 0)) rows (λ e. both_tests (is_here e) (is_other e) e.1.percent)
     ∙ sym (total-filter (λ e. cond (is_other e) e.1.percent (pos 0)) is_here rows)
 
+-- a test of elements that pass another asks those alone
+any_passing : {X : Type 0} (p q test : X → Bool) → ((x : X) → test x ≡ (p x && q x)) → (xs : List X) → list_any test xs ≡ list_any q (filter p xs)
+any_passing p q test both [] = refl
+any_passing p q test both (x ∷ xs) =
+    (λ i. both x i || any_passing p q test both xs i)
+    ∙ elim (p x) as (λ b. (b && q x || list_any q (filter p xs)) ≡ list_any q (cond b (x ∷ filter p xs) (filter p xs))) [ true ↦ refl | false ↦ refl ]
+
+-- whether a reallocation is to the account of a row of units depends only on the unit's reallocations
+any_of_unit : (tables : Registered) (r : UnitRow)
+    → list_any (λ e. is_to_lead_of r e.0) tables.reallocations
+    ≡ list_any (λ (e : ReallocationKey × Reallocation). holds r.registration.range e.0.unit_period.at.date && is_same_account e.0.account r.registration.lead) (reallocations_of tables r.unit)
+any_of_unit tables r =
+    any_passing (λ (e : ReallocationKey × Reallocation). eq_by_cmp bytes_cmp e.0.unit_period.unit r.unit)
+    (λ (e : ReallocationKey × Reallocation). holds r.registration.range e.0.unit_period.at.date && is_same_account e.0.account r.registration.lead)
+    (λ (e : ReallocationKey × Reallocation). is_to_lead_of r e.0)
+    (λ e. and_assoc (eq_by_cmp bytes_cmp e.0.unit_period.unit r.unit) (holds r.registration.range e.0.unit_period.at.date) (is_same_account e.0.account r.registration.lead))
+    tables.reallocations
+
 module _ (timing : Timing) (whole part : Standing) (parties : part.party_count ≡ whole.party_count) (units : part.unit_count ≡ whole.unit_count) where
   judged_alike : (r : Row) → AgreesOn whole.tables part.tables r → first_met (refusals_of part timing r) ≡ first_met (refusals_of whole timing r)
   judged_alike (row.Party r) party = λ i. first_met (
       (refusal.ShrinksRange, is_some_that (λ p. not (is_inside p.range r.registration.range)) (party i))
       ∷ (refusal.TooMany, is_none (party i) && nat_le most_parties (parties i)) ∷ [])
-  judged_alike (row.Unit r) (party, unit, leads) = λ i. first_met (
+  judged_alike (row.Unit r) (party, unit, rows, leads) =
+      let to_lead : list_any (λ e. is_to_lead_of r e.0) part.tables.reallocations ≡ list_any (λ e. is_to_lead_of r e.0) whole.tables.reallocations =
+      any_of_unit part.tables r
+      ∙ ap (list_any (λ (e : ReallocationKey × Reallocation). holds r.registration.range e.0.unit_period.at.date && is_same_account e.0.account r.registration.lead)) rows
+      ∙ sym (any_of_unit whole.tables r) in
+      λ i. first_met (
       (refusal.UnknownParty, is_none (party i))
       ∷ (refusal.NotEffective, is_some_that (λ p. not (is_inside r.registration.range p.range)) (party i))
-      ∷ (refusal.ShrinksRange, is_some_that (λ u. not (is_inside u.range r.registration.range)) (unit i))
-      ∷ (refusal.UnitMoved, is_some_that (λ u. is_unit_moved u r.registration) (unit i))
+      ∷ (refusal.ShrinksRange, is_some_that (λ u. is_shrunk u (last_lead (leads i) r.unit u) r.registration) (unit i))
+      ∷ (refusal.UnitMoved, is_some_that (λ u. is_unit_moved u (last_lead (leads i) r.unit u) r.registration) (unit i))
+      ∷ (refusal.LeadIsSubsidiary, is_some_that (λ u. is_succession (last_lead (leads i) r.unit u) r.registration && to_lead i) (unit i))
       ∷ (refusal.TooMany, is_none (unit i) && nat_le most_units (units i)) ∷ [])
   judged_alike (row.Meter r) (unit, reading, leads) = λ i. first_met (
       (refusal.UnknownUnit, is_none (unit i))
@@ -98,7 +121,7 @@ module _ (timing : Timing) (whole part : Standing) (parties : part.party_count �
       ∷ (refusal.UnknownUnit, is_none (unit i))
       ∷ (refusal.NotEffective, is_some_that (λ u. not (holds u.range r.key.unit_period.at.date)) (unit i) || is_some_that (λ p. not (holds p.range r.key.unit_period.at.date)) (party i))
       ∷ (refusal.NoSuchPeriod, lacks_period timing)
-      ∷ (refusal.OwnLead, is_some_that (λ u. is_same_account u.lead r.key.account) (unit i))
+      ∷ (refusal.OwnLead, is_some_that (λ e. is_same_account e.1.lead r.key.account) (registration_on (leads i) r.key.unit_period.unit r.key.unit_period.at.date))
       ∷ (refusal.OverHundred, comes_in_time timing && int_lt hundred_percent (others i +ℤ r.reallocation.percent)) ∷ [])
 
 -- a part that serves for a row refuses it for the same reason as the whole, or accepts it as the whole does
@@ -157,7 +180,7 @@ module _ (whole part : Registered) where
 
   own_unit : (r : Row) → AgreesOn whole part r → AgreesAt bytes_cmp (unit_entry r) whole.units part.units
   own_unit (row.Party r) agrees = tt
-  own_unit (row.Unit r) (party, unit, leads) = unit
+  own_unit (row.Unit r) (party, unit, rows, leads) = unit
   own_unit (row.Meter r) agrees = tt
   own_unit (row.Price r) agrees = tt
   own_unit (row.Contract r) agrees = tt
@@ -171,26 +194,51 @@ module _ (whole part : Registered) where
   own_reference (row.Contract r) (seller, buyer, reference, volume) = reference
   own_reference (row.Reallocation r) agrees = tt
 
-  -- the reallocations in force of a unit in a Settlement Period, after a row
-  reallocations_after : (tables : Registered) → IsTable reallocation_key_cmp tables.reallocations → (in_time : Bool) (e : Option (ReallocationKey × Reallocation)) (at : UnitPeriod)
-      → filter (is_at at) (put_in_time reallocation_key_cmp in_time e tables.reallocations) ≡ put_here at in_time e (reallocations_at tables at)
-  reallocations_after tables rising in_time None at = refl
-  reallocations_after tables rising false (Some e) at = refl
-  reallocations_after tables rising true (Some e) at =
-      filter-put reallocation_key_total exact_reallocation_keys (λ k. eq_by_cmp unit_period_cmp k.unit_period at) e.0 e.1 tables.reallocations (sorted_table reallocation_key_cmp tables.reallocations rising)
+  -- the reallocations in force whose keys pass a test, after a row
+  reallocations_after : (tables : Registered) → IsTable reallocation_key_cmp tables.reallocations → (in_time : Bool) (e : Option (ReallocationKey × Reallocation)) (test : ReallocationKey → Bool)
+      → filter (λ (f : ReallocationKey × Reallocation). test f.0) (put_in_time reallocation_key_cmp in_time e tables.reallocations)
+      ≡ put_here test in_time e (filter (λ (f : ReallocationKey × Reallocation). test f.0) tables.reallocations)
+  reallocations_after tables rising in_time None test = refl
+  reallocations_after tables rising false (Some e) test = refl
+  reallocations_after tables rising true (Some e) test =
+      filter-put reallocation_key_total exact_reallocation_keys test e.0 e.1 tables.reallocations (sorted_table reallocation_key_cmp tables.reallocations rising)
+
+  -- so both have the same of them after a row, if they had
+  reallocations_alike : IsTable reallocation_key_cmp whole.reallocations → IsTable reallocation_key_cmp part.reallocations
+      → (in_time : Bool) (r : Row) (test : ReallocationKey → Bool)
+      → filter (λ (f : ReallocationKey × Reallocation). test f.0) part.reallocations ≡ filter (λ (f : ReallocationKey × Reallocation). test f.0) whole.reallocations
+      → filter (λ (f : ReallocationKey × Reallocation). test f.0) (with_row in_time r part).reallocations ≡ filter (λ (f : ReallocationKey × Reallocation). test f.0) (with_row in_time r whole).reallocations
+  reallocations_alike rising rising_part in_time r test same =
+      reallocations_after part rising_part in_time (reallocation_entry r) test
+      ∙ ap (put_here test in_time (reallocation_entry r)) same
+      ∙ sym (reallocations_after whole rising in_time (reallocation_entry r) test)
+
+  -- what is registered of a unit, after a row
+  units_alike : (unit : List ℕ) → find bytes_cmp unit part.units ≡ find bytes_cmp unit whole.units → (r : Row) → AgreesOn whole part r
+      → find bytes_cmp unit (units_with_row r part.units) ≡ find bytes_cmp unit (units_with_row r whole.units)
+  units_alike unit same (row.Unit x) (party, own, rows, leads) =
+      find-put bytes_cmp bytes_total unit x.unit (widened (find bytes_cmp x.unit part.units) x.registration) part.units
+      ∙ (λ i. cond (eq_by_cmp bytes_cmp unit x.unit) (Some (widened (own i) x.registration)) (same i))
+      ∙ sym (find-put bytes_cmp bytes_total unit x.unit (widened (find bytes_cmp x.unit whole.units) x.registration) whole.units)
+  units_alike unit same (row.Party x) own = same
+  units_alike unit same (row.Meter x) own = same
+  units_alike unit same (row.Price x) own = same
+  units_alike unit same (row.Contract x) own = same
+  units_alike unit same (row.Reallocation x) own = same
 
   -- after a row that both accept, the part still agrees with the whole on another row
   agrees_after : IsTable reallocation_key_cmp whole.reallocations → IsTable reallocation_key_cmp part.reallocations
       → (in_time : Bool) (r : Row) → AgreesOn whole part r → (other : Row) → AgreesOn whole part other → AgreesOn (with_row in_time r whole) (with_row in_time r part) other
   agrees_after rising rising_part in_time r own (row.Party x) party =
       alike-put_entry bytes_total whole.parties part.parties x.party party (party_entry r)
-  agrees_after rising rising_part in_time r own (row.Unit x) (party, unit, leads) = (
+  agrees_after rising rising_part in_time r own (row.Unit x) (party, unit, rows, leads) = (
     alike-put_entry bytes_total whole.parties part.parties x.registration.lead.party party (party_entry r),
-    alike-put_entry bytes_total whole.units part.units x.unit unit (unit_entry r),
+    units_alike x.unit unit r own,
+    reallocations_alike rising rising_part in_time r (λ k. eq_by_cmp bytes_cmp k.unit_period.unit x.unit) rows,
     ap (leads_with_row r) leads,
   )
   agrees_after rising rising_part in_time r own (row.Meter x) (unit, reading, leads) = (
-    alike-put_entry bytes_total whole.units part.units x.key.unit unit (unit_entry r),
+    units_alike x.key.unit unit r own,
     alike-put_entry unit_period_total whole.meters part.meters x.key reading (meter_entry r),
     ap (leads_with_row r) leads,
   )
@@ -204,10 +252,8 @@ module _ (whole part : Registered) where
   )
   agrees_after rising rising_part in_time r own (row.Reallocation x) (party, unit, rows, leads) = (
     alike-put_entry bytes_total whole.parties part.parties x.key.account.party party (party_entry r),
-    alike-put_entry bytes_total whole.units part.units x.key.unit_period.unit unit (unit_entry r),
-    reallocations_after part rising_part in_time (reallocation_entry r) x.key.unit_period
-        ∙ ap (put_here x.key.unit_period in_time (reallocation_entry r)) rows
-        ∙ sym (reallocations_after whole rising in_time (reallocation_entry r) x.key.unit_period),
+    units_alike x.key.unit_period.unit unit r own,
+    reallocations_alike rising rising_part in_time r (λ k. eq_by_cmp unit_period_cmp k.unit_period x.key.unit_period) rows,
     ap (leads_with_row r) leads,
   )
 

@@ -15,7 +15,7 @@ use Rattle.hh_rows.specs.declared.rows.Row.TheVariants as row
 use Rattle.hh_rules.specs.declared.row_done.RowDone.{RowDone}
 use Rattle.hh_rules.specs.declared.row_done.RowDone.TheVariants.{Applied, Late}
 use Rattle.hh_rules.specs.Entries.{party_entry, unit_entry, reference_entry, meter_entry, price_entry, contract_entry, reallocation_entry}
-use Rattle.hh_rules.specs.History.{History, Registered, leads_with_row, registered_in}
+use Rattle.hh_rules.specs.History.{History, Registered, leads_with_row, registered_in, units_with_row}
 use Rattle.hh_rules.specs.Lateness.{Timetable, Accepted}
 use Rattle.hh_rules.specs.Refusals.{Standing, whole_standing}
 
@@ -48,12 +48,12 @@ abbrev pub count_new : {K V : Type 0} → (K → K → Ordering) → Option (K �
 count_new R None table count = count
 count_new R (Some e) table count = if is_some (find R e.0 table) then count else count + 1
 
--- What is registered and in force after one more row: its entries replace those of their keys. A contract or reallocation
--- row that is late is not in force, but a contract row fixes its reference if that is new, also if the row is late.
+-- What is registered and in force after one more row: its entries replace those of their keys, and a row of units widens its unit's
+-- range and changes its registrations. A contract or reallocation row that is late is not in force, but a contract row fixes its reference if that is new, also if the row is late.
 abbrev pub with_row : Bool → Row → Registered → Registered
 with_row in_time r tables = record {
   parties = put_entry bytes_cmp (party_entry r) tables.parties;
-  units = put_entry bytes_cmp (unit_entry r) tables.units;
+  units = units_with_row r tables.units;
   leads = leads_with_row r tables.leads;
   references = put_new bytes_cmp (reference_entry r) tables.references;
   meters = put_entry unit_period_cmp (meter_entry r) tables.meters;

@@ -1,11 +1,14 @@
 -- Why a row is refused: the refusals of each kind of row with their conditions, in the order of their numbers.
-use Rattle.std.specs.Prelude.{ℕ, ◌+ℤ◌, nat_le, int_lt, List, [], ◌∷◌, length, Bool, true, false, not, ◌&&◌, ◌||◌, Option, Some, None, is_none}
+use Rattle.std.specs.Prelude.{ℕ, ◌+◌, ◌+ℤ◌, nat_le, nat_lt, int_lt, List, [], ◌∷◌, length, Bool, true, false, not, ◌&&◌, ◌||◌, Option, Some, None, is_none, unwrap_or, if◌then◌else◌}
 use Rattle.std.specs.FinMap.{find}
+use Rattle.std.specs.List.{list_any}
+use Rattle.std.specs.Ordering.{eq_by_cmp}
 use Rattle.hh_names.specs.declared.fault.Refusal.{Refusal}
 use Rattle.hh_names.specs.declared.fault.Refusal.TheVariants as refusal
 use Rattle.hh_names.specs.Accounts.{bytes_cmp, is_same_account}
 use Rattle.hh_names.specs.CounterpartyRule.{counterparty_refusals}
 use Rattle.hh_rows.specs.DateRanges.{holds, is_inside}
+use Rattle.hh_rows.specs.declared.keys.ReallocationKey.{ReallocationKey}
 use Rattle.hh_rows.specs.declared.rows.Row.{Row}
 use Rattle.hh_rows.specs.declared.rows.Row.TheVariants as row
 use Rattle.hh_rows.specs.declared.rows.PartyRow.{PartyRow}
@@ -16,10 +19,10 @@ use Rattle.hh_rows.specs.declared.rows.ReallocationRow.{ReallocationRow}
 use Rattle.hh_rows.specs.declared.rows.PartyRegistration.{PartyRegistration}
 use Rattle.hh_rows.specs.declared.rows.UnitRegistration.{UnitRegistration}
 use Rattle.hh_rows.specs.Quantities.{hundred_percent}
+use Rattle.hh_registrations.specs.Registrations.{Lead, Leads, is_succession, is_widening, last_registration, lead_of, registration_on}
 use Rattle.hh_rules.specs.declared.timing.Timing.{Timing}
 use Rattle.hh_rules.specs.History.{Registered}
 use Rattle.hh_rules.specs.Lateness.{comes_in_time, lacks_period}
-use Rattle.hh_rules.specs.Leads.{lead_on}
 use Rattle.hh_rules.specs.Percents.{percent_of_others}
 
 -- what a row is judged by: what is registered and in force, and how many parties and units there are in all
@@ -50,10 +53,33 @@ abbrev pub is_same_mark : Bool → Bool → Bool
 is_same_mark true mark = mark
 is_same_mark false mark = not mark
 
--- a known unit's new registration has another lead account or interconnector mark
-abbrev pub is_unit_moved : UnitRegistration → UnitRegistration → Bool
-is_unit_moved known new =
-    not (is_same_account known.lead new.lead && is_same_mark known.interconnector new.interconnector)
+-- the last registration of a known unit
+abbrev pub last_lead : Leads → List ℕ → UnitRegistration → Lead
+last_lead leads unit known = unwrap_or (last_registration leads unit) (lead_of unit known)
+
+-- of a known unit with this last registration
+module _ (known : UnitRegistration) (last : Lead) (new : UnitRegistration) where
+  -- the unit has more registrations than the last
+  abbrev pub has_several : Bool
+  has_several = nat_lt known.range.from last.0.from
+
+  -- 39: the row ends before the unit's range does; or it is a widening that begins later than the last registration
+  abbrev pub is_shrunk : Bool
+  is_shrunk = nat_lt new.range.to known.range.to || (is_widening last new && nat_lt last.0.from new.range.from)
+
+  -- 40: the mark differs; or it is a widening that begins earlier than the last of several registrations; or it is a succession that
+  -- doesn't begin later than the last registration, or begins later than the day after the unit's range
+  abbrev pub is_unit_moved : Bool
+  is_unit_moved =
+      not (is_same_mark known.interconnector new.interconnector)
+      || (if is_widening last new then nat_lt new.range.from last.0.from && has_several
+      else nat_le new.range.from last.0.from || nat_lt (known.range.to + 1) new.range.from)
+
+-- a reallocation of the unit on one of the row's dates is to the row's lead account
+abbrev pub is_to_lead_of : UnitRow → ReallocationKey → Bool
+is_to_lead_of r key =
+    eq_by_cmp bytes_cmp key.unit_period.unit r.unit && holds r.registration.range key.unit_period.at.date
+    && is_same_account key.account r.registration.lead
 
 -- a row of prices needs only its period
 abbrev pub price_refusals : Timing → List (Refusal × Bool)
@@ -84,15 +110,23 @@ module _ (standing : Standing) where
       ∷ (refusal.TooMany, is_none known && nat_le most_parties standing.party_count)
       ∷ []
 
+  -- 41: the row is a succession, and a reallocation in force on one of its dates is to its lead account
+  abbrev pub is_subsidiary_put_first : UnitRow → Lead → Bool
+  is_subsidiary_put_first r last =
+      is_succession last r.registration && list_any (λ e. is_to_lead_of r e.0) standing.tables.reallocations
+
+  -- 30, 33 and 42 are asked of any unit, 39 to 41 of a known one
   abbrev pub unit_refusals : UnitRow → List (Refusal × Bool)
   unit_refusals r =
       let new = r.registration in
       let lead_party = registered_party new.lead.party in
       let known = registered_unit r.unit in
+      let last = last_lead standing.tables.leads r.unit in
       (refusal.UnknownParty, is_none lead_party)
       ∷ (refusal.NotEffective, is_some_that (λ p. not (is_inside new.range p.range)) lead_party)
-      ∷ (refusal.ShrinksRange, is_some_that (λ u. not (is_inside u.range new.range)) known)
-      ∷ (refusal.UnitMoved, is_some_that (λ u. is_unit_moved u new) known)
+      ∷ (refusal.ShrinksRange, is_some_that (λ u. is_shrunk u (last u) new) known)
+      ∷ (refusal.UnitMoved, is_some_that (λ u. is_unit_moved u (last u) new) known)
+      ∷ (refusal.LeadIsSubsidiary, is_some_that (λ u. is_subsidiary_put_first r (last u)) known)
       ∷ (refusal.TooMany, is_none known && nat_le most_units standing.unit_count)
       ∷ []
 
@@ -117,7 +151,7 @@ module _ (standing : Standing) where
   passes_hundred r =
       int_lt hundred_percent (percent_of_others r.key standing.tables.reallocations +ℤ r.reallocation.percent)
 
-  -- a late row is never in force, so it can't take the unit above 100 percent
+  -- 37 means the lead account of the row's date. A late row is never in force, so it can't take the unit above 100 percent.
   abbrev pub reallocation_refusals : Timing → ReallocationRow → List (Refusal × Bool)
   reallocation_refusals timing r =
       let party = r.key.account.party in
@@ -127,7 +161,7 @@ module _ (standing : Standing) where
       ∷ (refusal.UnknownUnit, is_none (registered_unit unit))
       ∷ (refusal.NotEffective, is_unit_off unit date || is_party_off party date)
       ∷ (refusal.NoSuchPeriod, lacks_period timing)
-      ∷ (refusal.OwnLead, is_some_that (λ u. is_same_account (lead_on standing.tables unit u date) r.key.account) (registered_unit unit))
+      ∷ (refusal.OwnLead, is_some_that (λ e. is_same_account e.1.lead r.key.account) (registration_on standing.tables.leads unit date))
       ∷ (refusal.OverHundred, comes_in_time timing && passes_hundred r)
       ∷ []
 

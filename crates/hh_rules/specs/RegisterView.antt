@@ -157,6 +157,10 @@ module _ (zone : TimeZone) (register : RegisterView) (moment : ℤ) (r : Row) wh
 abbrev pub reallocations_at : Registered → UnitPeriod → Table ReallocationKey Reallocation
 reallocations_at tables at = filter (λ e. eq_by_cmp unit_period_cmp e.0.unit_period at) tables.reallocations
 
+-- the reallocations in force of a unit, in all Settlement Periods
+abbrev pub reallocations_of : Registered → List ℕ → Table ReallocationKey Reallocation
+reallocations_of tables unit = filter (λ e. eq_by_cmp bytes_cmp e.0.unit_period.unit unit) tables.reallocations
+
 -- both registers have the same for a party
 abbrev pub AgreesOnParty : Registered → Registered → List ℕ → Type 0
 AgreesOnParty whole part party = find bytes_cmp party part.parties ≡ find bytes_cmp party whole.parties
@@ -175,11 +179,14 @@ abbrev pub AgreesOnLeads : Registered → Registered → Type 0
 AgreesOnLeads whole part = part.leads ≡ whole.leads
 
 -- The part has the same as the whole for all that the row is judged by, and for the row in force of its key. For a row that names a
--- unit it has the registrations of all units.
+-- unit it has the registrations of all units, and for a row of units the unit's reallocations in force.
 abbrev pub AgreesOn : Registered → Registered → Row → Type 0
 AgreesOn whole part (row.Party r) = AgreesOnParty whole part r.party
 AgreesOn whole part (row.Unit r) =
-    AgreesOnParty whole part r.registration.lead.party × AgreesOnUnit whole part r.unit × AgreesOnLeads whole part
+    AgreesOnParty whole part r.registration.lead.party
+    × AgreesOnUnit whole part r.unit
+    × (reallocations_of part r.unit ≡ reallocations_of whole r.unit)
+    × AgreesOnLeads whole part
 AgreesOn whole part (row.Meter r) =
     AgreesOnUnit whole part r.key.unit
     × (find unit_period_cmp r.key part.meters ≡ find unit_period_cmp r.key whole.meters)

@@ -37,14 +37,14 @@ impl Register {
         ensures ok { OnOk result (self.new ≡ holding_unit self.old unit registration) }
         ensures err { OnErr result (self.new ≡ self.old) }
     {
-        self.units.put_row(unit, registration)
+        self.registrations.hold_unit(unit, registration)
     }
 
     /// Holds these registrations of units, in the place of those that it held.
     pub fn hold_leads(&mut self, leads: LeadTable)
         ensures { self.new ≡ holding_leads self.old leads }
     {
-        self.leads = leads;
+        self.registrations.hold_leads(leads);
     }
 
     /// Holds the seller and the buyer of a reference, replacing those that it held. `Err` only if memory

@@ -1,22 +1,23 @@
 //! Why a row is refused: the rules of each kind, in the order of their numbers.
 
-ghost use Rattle.std.specs.Prelude.{◌≡◌, ◌∷◌, [], not, None, IfOk, IfErr, OnOk};
+ghost use Rattle.std.specs.Prelude.{◌≡◌, ◌∷◌, [], true, false, None, IfOk, IfErr, OnOk};
 ghost use Rattle.hh_names.specs.declared.fault.Refusal.TheVariants.{ShrinksRange, UnitMoved};
+ghost use Rattle.hh_names.specs.Accounts.{is_same_account};
 ghost use Rattle.hh_names.specs.Faults.{first_met};
-ghost use Rattle.hh_rows.specs.DateRanges.{is_inside};
+ghost use Rattle.hh_registrations.specs.Registrations.{is_widening, registration_on};
+ghost use Rattle.hh_rules.specs.steps.Changes.{change_refusals};
 ghost use Rattle.hh_rules.specs.steps.Effects.{HasRoomFor};
-ghost use Rattle.hh_rules.specs.Leads.{lead_on};
 ghost use Rattle.hh_rules.specs.RegisterView.{judged_at, refusal_at, tables_in, IsLeastFault, IsLeastRefusal, JudgesAsWhole};
 ghost use Rattle.hh_rules.specs.steps.RegisterView.{IsKeptIn, IsRefusedFor, TellsInTime};
-ghost use Rattle.hh_rules.specs.Refusals.{contract_refusals, is_unit_moved, meter_refusals, party_refusals, passes_hundred, price_refusals, reallocation_refusals, refusals_of, unit_refusals};
+ghost use Rattle.hh_rules.specs.Refusals.{contract_refusals, is_shrunk, is_some_that, is_unit_moved, last_lead, meter_refusals, party_refusals, passes_hundred, price_refusals, reallocation_refusals, refusals_of, unit_refusals};
 
 use crate::last_asked::LastAsked;
 use crate::register::Register;
 use crate::timing::Timing;
 use hh_names::{Account, Fault, Refusal, UnitId};
 use hh_rows::{
-    ContractRow, MeterRow, PartyRow, ReallocationRow, Row, SettlementDate, UnitRegistration,
-    UnitRow,
+    ContractRow, LeadKey, LeadTerm, MeterRow, PartyRow, ReallocationRow, Row, SettlementDate,
+    UnitRegistration, UnitRow,
 };
 use jiff::tz::TimeZone;
 
@@ -108,10 +109,63 @@ impl Register {
             return Some(Refusal::NotEffective);
         }
         match self.unit(&row.unit) {
-            Some(known) => refusal_of_change(known, new),
+            Some(known) => self.refusal_of_change(row, &known),
             None if MOST_UNITS <= self.unit_count() => Some(Refusal::TooMany),
             None => None,
         }
+    }
+
+    /// Why a row of a known unit is refused, if it is.
+    fn refusal_of_change(&self, row: &UnitRow, known: &UnitRegistration) -> Option<Refusal>
+        ensures { result ≡ first_met (change_refusals self.now.standing row.now known.now
+            (last_lead (tables_in self.now).leads row.now.unit known.now)) }
+    {
+        let last = self.last_lead(row.unit, known);
+        if last.1.lead == row.registration.lead {
+            refusal_of_widening(&row.registration, known, &last)
+        } else {
+            self.refusal_of_succession(row, known, &last)
+        }
+    }
+
+    /// The last registration of a known unit. If it has none, the one that its own row would make.
+    fn last_lead(&self, unit: UnitId, known: &UnitRegistration) -> (LeadKey, LeadTerm)
+        ensures { result ≡ last_lead (tables_in self.now).leads unit known.now }
+    {
+        let (from, to) = known.range.ends();
+        let lead = known.lead;
+        let own = (LeadKey { unit, from }, LeadTerm { lead, to });
+        self.registrations.last(&unit).unwrap_or(own)
+    }
+
+    /// Why a row by which another account succeeds a unit's last lead account is refused, if it is.
+    fn refusal_of_succession(
+        &self,
+        row: &UnitRow,
+        known: &UnitRegistration,
+        last: &(LeadKey, LeadTerm),
+    ) -> Option<Refusal>
+        requires { is_widening last.now row.now.registration ≡ false }
+        ensures { result
+            ≡ first_met (change_refusals self.now.standing row.now known.now last.now) }
+    {
+        let new = row.registration;
+        if new.range.to() < known.range.to() {
+            return Some(Refusal::ShrinksRange);
+        }
+        if known.interconnector != new.interconnector {
+            return Some(Refusal::UnitMoved);
+        }
+        let Some(before) = last.0.from.last_before(new.range.from()) else {
+            return Some(Refusal::UnitMoved);
+        };
+        if known.range.to() < before {
+            return Some(Refusal::UnitMoved);
+        }
+        if self.is_reallocated_to_lead(row, before) {
+            return Some(Refusal::LeadIsSubsidiary);
+        }
+        None
     }
 
     /// Why a row of meter volumes is refused, if it is. Keeps the place of its unit.
@@ -166,7 +220,7 @@ impl Register {
         if timing.lacks_period() {
             return Some(Refusal::NoSuchPeriod);
         }
-        if self.lead_on(&row.key.unit_period.unit, &unit, date) == row.key.account {
+        if self.is_led_by(&row.key.unit_period.unit, date, &row.key.account) {
             return Some(Refusal::OwnLead);
         }
         if timing.comes_in_time() && self.passes_hundred(row) {
@@ -175,16 +229,15 @@ impl Register {
         None
     }
 
-    /// The account that leads a unit with this registration on a date.
-    fn lead_on(
-        &self,
-        unit: &UnitId,
-        registration: &UnitRegistration,
-        date: SettlementDate,
-    ) -> Account
-        ensures { result ≡ lead_on (tables_in self.now) unit.now registration.now date }
+    /// Whether an account leads a unit on a date.
+    fn is_led_by(&self, unit: &UnitId, date: SettlementDate, account: &Account) -> bool
+        ensures { result ≡ is_some_that (λ e. is_same_account e.1.lead account.now)
+            (registration_on (tables_in self.now).leads unit.now date) }
     {
-        registration.lead
+        match self.lead_on(unit, date) {
+            Some(lead) => lead == *account,
+            None => false,
+        }
     }
 
     /// Whether more than 100 percent would be in force with the row.
@@ -195,19 +248,26 @@ impl Register {
     }
 }
 
-/// Why a known unit may not get a new registration, if it may not.
-fn refusal_of_change(known: UnitRegistration, new: UnitRegistration) -> Option<Refusal>
-    ensures { result ≡ first_met ((ShrinksRange, not (is_inside known.range new.range))
-        ∷ (UnitMoved, is_unit_moved known new) ∷ []) }
+/// Why a row that widens a unit's last registration is refused, if it is.
+fn refusal_of_widening(
+    new: &UnitRegistration,
+    known: &UnitRegistration,
+    last: &(LeadKey, LeadTerm),
+) -> Option<Refusal>
+    requires { is_widening last.now new.now ≡ true }
+    ensures { result ≡ first_met ((ShrinksRange, is_shrunk known.now last.now new.now)
+        ∷ (UnitMoved, is_unit_moved known.now last.now new.now) ∷ []) }
 {
-    let is_moved = known.lead != new.lead || known.interconnector != new.interconnector;
-    if !known.range.is_inside(new.range) {
-        Some(Refusal::ShrinksRange)
-    } else if is_moved {
-        Some(Refusal::UnitMoved)
-    } else {
-        None
+    let from = new.range.from();
+    let last_from = last.0.from;
+    if new.range.to() < known.range.to() || last_from < from {
+        return Some(Refusal::ShrinksRange);
     }
+    let has_several = known.range.from() < last_from;
+    if known.interconnector != new.interconnector || (from < last_from && has_several) {
+        return Some(Refusal::UnitMoved);
+    }
+    None
 }
 
 /// Why a row of prices is refused, if it is.

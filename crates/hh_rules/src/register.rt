@@ -1,29 +1,35 @@
 //! The register: parties, units and references, and the rows in force.
 
-ghost use Rattle.std.specs.Prelude.{◌≡◌, pos, unwrap_or, true, IfOk, IfErr, OnOk, OnErr};
+ghost use Rattle.std.specs.Prelude.{◌≡◌, ◌<◌, pos, option_map, unwrap_or, true, IfOk, IfErr, OnOk, OnErr};
 ghost use Rattle.std.specs.FinMap.{find};
+ghost use Rattle.std.specs.List.{list_any};
 ghost use Rattle.hh_tables.specs.Tables.{IsTable};
 ghost use Rattle.hh_rows.specs.Keys.{contract_key_cmp, reallocation_key_cmp, settlement_period_cmp, unit_period_cmp};
 ghost use Rattle.hh_rows.specs.declared.rows.Row.TheVariants as rows;
 ghost use Rattle.hh_rows.specs.Ranges.{IsBetween};
 ghost use Rattle.hh_names.specs.Accounts.{bytes_cmp};
 ghost use Rattle.hh_names.specs.Faults.{faults, IsOutcomeOrNoMemory};
+ghost use Rattle.hh_registrations.specs.Registrations.{registration_on};
 ghost use Rattle.hh_rules.specs.Effects.{fixes_reference, row_done};
 ghost use Rattle.hh_rules.specs.steps.Effects.{HasRoomFor};
 ghost use Rattle.hh_rules.specs.Percents.{percent_of_others};
 ghost use Rattle.hh_rules.specs.steps.Percents.{percent_in};
+ghost use Rattle.hh_rules.specs.Refusals.{is_to_lead_of};
+ghost use Rattle.hh_rules.specs.steps.Changes.{is_past};
 ghost use Rattle.hh_rules.specs.RegisterView.{after_row, done_at, empty_part, empty_register, judged_at, register_after, tables_in, AddsOneRow, IsLeastFault, JudgesAsWhole, ServesAfter};
 
 use crate::last_asked::LastAsked;
 use crate::row_done::RowDone;
-use hh_names::{Counterparties, Fault, PartyId, Reading, Reallocation, Reference, UnitId};
-use hh_registrations::LeadTable;
+use hh_names::{
+    Account, Counterparties, Fault, PartyId, PeriodNumber, Reading, Reallocation, Reference, UnitId,
+};
+use hh_registrations::Registrations;
 use hh_rows::{
     ContractKey, ContractRow, Kwh, LeadMinutes, MeterRow, PartyRegistration, PartyRow, Percent,
-    Price, PriceRow, ReallocationKey, ReallocationRow, Row, SettlementPeriod, UnitPeriod,
-    UnitRegistration, UnitRow,
+    Price, PriceRow, ReallocationKey, ReallocationRow, Row, SettlementDate, SettlementPeriod,
+    UnitPeriod, UnitRegistration, UnitRow,
 };
-use hh_tables::{ListTable, TreeTable, put_both};
+use hh_tables::{TreeTable, put_both};
 use jiff::tz::TimeZone;
 use std::alloc::{AllocError, Global};
 use std::marker::Model;
@@ -36,10 +42,7 @@ pub struct Register {
     party_count: u32,
     unit_count: u32,
     pub(crate) parties: TreeTable<PartyId, PartyRegistration>,
-    /// A list, so that the unit of a row is found behind that of the row before. A unit that is put in
-    /// the middle moves all behind it. That is cheap enough only because there are at most 2,000.
-    pub(crate) units: ListTable<UnitId, UnitRegistration>,
-    pub(crate) leads: LeadTable,
+    pub(crate) registrations: Registrations,
     pub(crate) references: TreeTable<Reference, Counterparties>,
     pub(crate) meters: TreeTable<UnitPeriod, Reading>,
     pub(crate) prices: TreeTable<SettlementPeriod, Price>,
@@ -60,8 +63,8 @@ impl Model for Register {
       standing = record {
         tables = record {
           parties = r.parties;
-          units = r.units;
-          leads = r.leads;
+          units = r.registrations.units;
+          leads = r.registrations.leads;
           references = r.references;
           meters = r.meters;
           prices = r.prices;
@@ -99,8 +102,7 @@ impl Register {
             party_count,
             unit_count,
             parties: TreeTable::new(alloc),
-            units: ListTable::new(alloc),
-            leads: LeadTable::new(alloc),
+            registrations: Registrations::new(alloc),
             references: TreeTable::new(alloc),
             meters: TreeTable::new(alloc),
             prices: TreeTable::new(alloc),
@@ -138,11 +140,19 @@ impl Register {
         self.parties.get(party)
     }
 
+    /// The account that leads a unit on a date, if one does (profile).
+    pub fn lead_on(&self, unit: &UnitId, date: SettlementDate) -> Option<Account>
+        ensures { result ≡ option_map (λ e. e.1.lead)
+            (registration_on (tables_in self.now).leads unit.now date) }
+    {
+        self.registrations.registered_lead_on(unit, date)
+    }
+
     /// What is registered of a unit, if it is registered.
     pub fn unit(&self, unit: &UnitId) -> Option<UnitRegistration>
         ensures { result ≡ find bytes_cmp unit.now (tables_in self.now).units }
     {
-        self.units.get(unit)
+        self.registrations.unit(unit)
     }
 
     /// What is registered of a unit, if it is registered. Looks first behind the place that was kept,
@@ -151,14 +161,15 @@ impl Register {
         ensures { result ≡ find bytes_cmp unit.now (tables_in self.now).units }
     {
         *last = self.place_of_unit(last.saturating_add(1), unit);
-        self.units.get_near(*last, unit)
+        self.registrations.units().get_near(*last, unit)
     }
 
     /// The place of a unit: this one if it is the unit's, or the one where it belongs.
     fn place_of_unit(&self, place: usize, unit: &UnitId) -> usize {
-        match self.units.rows().get(place) {
+        let units = self.registrations.units();
+        match units.rows().get(place) {
             Some(row) if row.0 == *unit => place,
-            _ => self.units.count_below(unit),
+            _ => units.count_below(unit),
         }
     }
 
@@ -261,6 +272,26 @@ impl Register {
         all - own
     }
 
+    /// Whether a reallocation in force of a row's unit, on one of the row's dates, is to the row's lead
+    /// account. Goes through the unit's reallocations in force, from the end of `before` on, which is a
+    /// date before the row's first.
+    pub(crate) fn is_reallocated_to_lead(&self, row: &UnitRow, before: SettlementDate) -> bool
+        requires { before < row.now.registration.range.from }
+        ensures { result
+            ≡ list_any (λ e. is_to_lead_of row.now e.0) (tables_in self.now).reallocations }
+    {
+        let first = last_key_of(row, before);
+        for (key, _) in self.reallocations.rows_from(&first) {
+            if is_to_lead_of(row, key) {
+                return true;
+            }
+            if is_past(row, key) {
+                return false;
+            }
+        }
+        false
+    }
+
     /// Makes the changes of an accepted row.
     fn put_row(&mut self, in_time: bool, row: Row) -> Result<(), AllocError>
         requires { HasRoomFor in_time row self.old.standing }
@@ -291,19 +322,15 @@ impl Register {
         Ok(())
     }
 
-    /// Registers a new unit, or gives a known one a new registration.
+    /// Registers a new unit, or changes the registrations of a known one.
     pub(crate) fn put_unit(&mut self, row: UnitRow) -> Result<(), AllocError>
         requires { HasRoomFor true (rows.Unit row) self.old.standing }
         ensures ok { OnOk result (self.new ≡ after_row true (rows.Unit row) self.old) }
         ensures err { OnErr result (self.new ≡ self.old) }
     {
-        let before = self.units.get(&row.unit);
-        self.units.put_row(row.unit, row.registration)?;
-        if let Err(refused) = self.leads.put(&row) {
-            self.units.put_back(&row.unit, before);
-            return Err(refused);
-        }
-        if before.is_none() {
+        let is_new = self.registrations.unit(&row.unit).is_none();
+        self.registrations.put(&row)?;
+        if is_new {
             self.unit_count += 1;
         }
         Ok(())
@@ -366,6 +393,42 @@ impl Register {
             reallocation,
         )
     }
+}
+
+/// The last key that a reallocation of a row's unit to its lead account can have on a date.
+fn last_key_of(row: &UnitRow, date: SettlementDate) -> ReallocationKey
+    ensures unit { result.unit_period.unit ≡ row.now.unit }
+    ensures date { result.unit_period.at.date ≡ date }
+{
+    let Some(period) = PeriodNumber::new(50) else {
+        unreachable!();
+    };
+    ReallocationKey {
+        unit_period: UnitPeriod {
+            unit: row.unit,
+            at: SettlementPeriod { date, period },
+        },
+        account: row.registration.lead,
+    }
+}
+
+/// Whether a reallocation of this key is one of a row's unit, on one of the row's dates, to the row's
+/// lead account.
+#[tactic(auto, using(crate::proofs::WalkLaws::same_units))]
+fn is_to_lead_of(row: &UnitRow, key: &ReallocationKey) -> bool
+    ensures { result ≡ is_to_lead_of row.now key.now }
+{
+    key.unit_period.unit == row.unit
+        && row.registration.range.holds(key.unit_period.at.date)
+        && key.account == row.registration.lead
+}
+
+/// Whether a key that isn't below a row's unit comes behind all keys of the unit on the row's dates.
+#[tactic(auto, using(crate::proofs::WalkLaws::same_units))]
+fn is_past(row: &UnitRow, key: &ReallocationKey) -> bool
+    ensures { result ≡ is_past row.now key.now }
+{
+    key.unit_period.unit != row.unit || row.registration.range.to() < key.unit_period.at.date
 }
 
 /// The units of a percentage, 0 if there is none.

@@ -13,15 +13,15 @@ use Rattle.sqlite.specs.Effect.{Database}
 use Rattle.hh_rows.specs.Keys.{settlement_period_cmp}
 use Rattle.hh_rows.specs.declared.settlement_period.SettlementPeriod.{SettlementPeriod}
 use Rattle.hh_rows.proofs.KeyLaws.{exact_settlement_periods}
-use Rattle.hh_rules.specs.History.{Registered}
+use Rattle.hh_states.specs.Content.{Content}
 use Rattle.hh_rules.specs.Positions.{position_key_cmp}
 use Rattle.hh_rules.specs.declared.positions.Position.{Position}
 use Rattle.hh_rules.specs.declared.positions.PositionKey.{PositionKey}
 use Rattle.hh_states.specs.Changes.{LoadChangeView, RunChangeView}
-use Rattle.hh_registrations.specs.declared.lead_steps.LeadStep.{LeadStep}
+use Rattle.hh_registrations.specs.declared.unit_steps.UnitStep.{UnitStep}
 use Rattle.hh_states.specs.Beside.{is_among}
 use Rattle.hh_beside.specs.DayLaws.{HaveTheSame}
-use Rattle.hh_beside.specs.Keeping.{beside_with_load, beside_with_run, positions_with, touched_by}
+use Rattle.hh_beside.specs.Keeping.{beside_with_load, beside_with_run, positions_with, touched_by, touched_by_successions}
 use Rattle.hh_beside.specs.Laws.{AreAlike}
 use Rattle.hh_beside.proofs.AgreeLaws.{among_both, same_with_more}
 use Rattle.hh_beside.proofs.RisingLaws.{filter-map}
@@ -109,7 +109,7 @@ pub marked_anew : {X E : Type 0} (changed : List (PositionKey × Position)) (per
     → WritesBeside changed periods old mid → OnOk result (Puts forms.marks (record {}) true mid new) → OnOk result (WritesBesideAnew changed periods old new)
 marked_anew changed periods old mid new result written = on_ok_weaker result (mark_put changed periods old mid new written)
 
-pub load_changed : {X E : Type 0} (w : LoadChangeView) (steps : List LeadStep) (changed : List (PositionKey × Position)) (periods : List SettlementPeriod) (old mid new : Database) (result : Result X E)
+pub load_changed : {X E : Type 0} (w : LoadChangeView) (steps : List UnitStep) (changed : List (PositionKey × Position)) (periods : List SettlementPeriod) (old mid new : Database) (result : Result X E)
     → StoresLoadAlone w steps old mid → OnOk result (WritesBeside changed periods mid new) → OnOk result (ChangesByLoad w steps changed periods old new)
 load_changed w steps changed periods old mid new result stored = on_ok_weaker result (λ written. record {
   stores = record {
@@ -139,11 +139,29 @@ run_changed w date is old mid new result stored = on_ok_weaker result (λ remove
 
 -- ---- what is kept beside the content is as it should be after the load or the run
 
-pub alike_after_load : (w : LoadChangeView) (tables : Registered) (steps : List LeadStep) (changed : List (PositionKey × Position)) (periods : List SettlementPeriod) (old new : Database) → ChangesByLoad w steps changed periods old new
-    → put_all position_key_cmp changed (beside_in old.trees).positions ≡ positions_with w.rows tables.contracts (beside_in old.trees).positions → HaveTheSame periods (filter_map touched_by w.rows)
-    → AreAlike (beside_in new.trees) (beside_with_load w tables (beside_in old.trees))
-alike_after_load w tables steps changed periods old new changes positions same =
-    (changes.positions ∙ positions, λ at. changes.touched at ∙ same_with_more periods (filter_map touched_by w.rows) (beside_in old.trees).touched same at)
+pub alike_after_load : (w : LoadChangeView) (content : Content) (steps : List UnitStep) (changed : List (PositionKey × Position)) (periods : List SettlementPeriod) (old new : Database) → ChangesByLoad w steps changed periods old new
+    → put_all position_key_cmp changed (beside_in old.trees).positions ≡ positions_with w.rows content.registered.contracts (beside_in old.trees).positions
+    → HaveTheSame periods (touched_by_successions w.rows content.registered.leads content.runs ++ filter_map touched_by w.rows)
+    → AreAlike (beside_in new.trees) (beside_with_load w content (beside_in old.trees))
+alike_after_load w content steps changed periods old new changes positions same =
+    let by_successions : List SettlementPeriod = touched_by_successions w.rows content.registered.leads content.runs in
+    let by_rows : List SettlementPeriod = filter_map touched_by w.rows in
+    let before : List SettlementPeriod = (beside_in old.trees).touched in (
+      changes.positions ∙ positions,
+      λ at.
+          changes.touched at
+          ∙ same_with_more periods (by_successions ++ by_rows) before same at
+          ∙ among_both (by_successions ++ by_rows) before at
+          ∙ ap (λ b. b || is_among before at) (among_both by_successions by_rows at)
+          ∙ turned (is_among by_successions at) (is_among by_rows at) (is_among before at)
+          ∙ sym (among_both by_rows (by_successions ++ before) at ∙ ap (λ b. is_among by_rows at || b) (among_both by_successions before at)),
+    )
+  where
+    turned : (p q r : Bool) → ((p || q) || r) ≡ (q || (p || r))
+    turned true true r = refl
+    turned true false r = refl
+    turned false true r = refl
+    turned false false r = refl
 
 pub alike_after_run : (w : RunChangeView) (old new : Database) → ChangesByRun w old new → AreAlike (beside_in new.trees) (beside_with_run w (beside_in old.trees))
 alike_after_run w old new changes = (changes.positions, λ at. ap (λ ps. is_among ps at) changes.touched)

@@ -1,8 +1,8 @@
 pub mod AccountLaws
 pub mod BesideLaws
 pub mod GroupLaws
-pub mod LeadStepLaws
 pub mod LoadLaws
 pub mod RunLaws
 pub mod StayLaws
 pub mod TouchLaws
+pub mod UnitStepLaws

@@ -6,7 +6,6 @@ use Rattle.hh_tables.specs.Tables.{put_all}
 use Rattle.sqlite.specs.Effect.{Database}
 use Rattle.hh_names.specs.Accounts.{bytes_cmp}
 use Rattle.hh_names.specs.declared.values.Counterparties.{Counterparties}
-use Rattle.hh_rows.specs.Keys.{lead_key_cmp}
 use Rattle.hh_rows.specs.declared.rows.ContractRow.{ContractRow}
 use Rattle.hh_rows.specs.declared.rows.MeterRow.{MeterRow}
 use Rattle.hh_rows.specs.declared.rows.PartyRow.{PartyRow}
@@ -17,22 +16,21 @@ use Rattle.hh_rows.specs.declared.rows.Row.TheVariants as row
 use Rattle.hh_rows.specs.declared.rows.UnitRow.{UnitRow}
 use Rattle.hh_rules.specs.History.{Registered}
 use Rattle.hh_states.specs.declared.file_key.FileKey.{FileKey}
-use Rattle.hh_states.specs.Changes.{LoadChangeView, effect_of_load, leads_through, put_row, put_rows}
+use Rattle.hh_states.specs.Changes.{LoadChangeView, effect_of_load, leads_through, put_row, put_rows, units_through}
 use Rattle.hh_states.specs.Content.{Content}
 use Rattle.hh_states.specs.States.{KeptFileView, file_key_cmp}
 use Rattle.hh_sqlrows.specs.Contents.{content_of, result_of}
 use Rattle.hh_sqlrows.specs.Forms.{PutsAll}
+use Rattle.hh_sqlrows.specs.Office.{IsOffice}
 use Rattle.hh_sqlrows.specs.steps.Forms.{Puts}
 use Rattle.hh_sqlrows.specs.OfficeTables as forms
-use Rattle.hh_registrations.specs.LeadSteps.{former_steps, leads_after_steps, leads_stepped, steps_of, steps_of_row, steps_of_rows}
-use Rattle.hh_registrations.specs.declared.changes.FormerLead.TheVariants as former
-use Rattle.hh_registrations.specs.declared.changes.LeadChange.{LeadChange}
-use Rattle.hh_registrations.specs.declared.lead_steps.LeadStep.{LeadStep}
-use Rattle.hh_registrations.specs.declared.lead_steps.LeadStep.TheVariants as step
-use Rattle.hh_registrations.specs.Registrations.{Leads, beside_former, lead_change, leads_with, leads_with_row}
+use Rattle.hh_registrations.specs.UnitSteps.{registered_after_steps, steps_of_rows}
+use Rattle.hh_registrations.specs.declared.unit_steps.UnitStep.{UnitStep}
+use Rattle.hh_rules.specs.Leads.{registered_units}
 use Rattle.hh_sqlchanges.specs.steps.Becoming.{Becomes, StoresLoadAlone}
-use Rattle.hh_sqlchanges.specs.steps.FileRows.{with_file_row, with_file_rows, with_lead_steps}
-use Rattle.hh_sqlchanges.proofs.StayLaws.{becomes_as, becomes_here, becomes_then, beside_kept, contracts_kept, credits_kept, leads_become, leads_kept, meters_kept, parties_kept, postings_kept, prices_kept, reallocations_kept, references_kept, registered_becomes, registered_kept, results_kept, runs_kept, stays_office, units_kept}
+use Rattle.hh_sqlchanges.specs.steps.FileRows.{with_file_row, with_file_rows, with_unit_steps}
+use Rattle.hh_sqlchanges.proofs.StayLaws.{becomes_as, becomes_here, becomes_then, beside_kept, contracts_kept, credits_kept, leads_kept, meters_kept, parties_kept, postings_kept, prices_kept, reallocations_kept, references_kept, registered_becomes, registered_kept, results_kept, runs_kept, stays_office, units_kept}
+use Rattle.hh_sqlchanges.proofs.UnitStepLaws.{rows_stepped}
 
 -- ---- one row
 
@@ -47,18 +45,6 @@ module _ (old new : Database) where
     references = references_kept 2 old.trees new.trees puts.others (λ e. omega (arith, e)) i;
     contracts = contracts_kept 2 old.trees new.trees puts.others (λ e. omega (arith, e)) i;
     reallocations = reallocations_kept 2 old.trees new.trees puts.others (λ e. omega (arith, e)) i;
-  })
-
-  pub unit_put : (r : UnitRow) → Puts forms.units r.unit r.registration old new → Becomes (with_file_row (row.Unit r)) old new
-  unit_put r puts = registered_becomes 4 old new puts.is_office puts.others (put_row (row.Unit r)) (omega arith) (omega arith) (λ i. record {
-    parties = parties_kept 4 old.trees new.trees puts.others (λ e. omega (arith, e)) i;
-    units = puts.rows i;
-    leads = leads_kept 4 old.trees new.trees puts.others (λ e. omega (arith, e)) i;
-    meters = meters_kept 4 old.trees new.trees puts.others (λ e. omega (arith, e)) i;
-    prices = prices_kept 4 old.trees new.trees puts.others (λ e. omega (arith, e)) i;
-    references = references_kept 4 old.trees new.trees puts.others (λ e. omega (arith, e)) i;
-    contracts = contracts_kept 4 old.trees new.trees puts.others (λ e. omega (arith, e)) i;
-    reallocations = reallocations_kept 4 old.trees new.trees puts.others (λ e. omega (arith, e)) i;
   })
 
   pub meter_put : (r : MeterRow) → Puts forms.meters r.key r.reading old new → Becomes (with_file_row (row.Meter r)) old new
@@ -109,6 +95,10 @@ module _ (old new : Database) where
     reallocations = puts.rows i;
   })
 
+-- a row of units writes nothing by itself
+pub unit_row_none : (r : UnitRow) (db : Database) → IsOffice db → Becomes (with_file_row (row.Unit r)) db db
+unit_row_none r db is = record { stays = record { is_office = is; settings = refl; mark = refl }; content = λ kept. refl; beside = refl }
+
 -- ---- rows one after the other
 
 put_rows_last : (rs : List Row) (r : Row) (tables : Registered) → put_row r (put_rows rs tables) ≡ put_rows (rs ++ r ∷ []) tables
@@ -157,74 +147,52 @@ module _ (old new : Database) where
     reallocations = reallocations_kept 10 old.trees new.trees puts.others (λ e. omega (arith, e)) i;
   })
 
--- rows do not change the references, and registrations of units are put apart
+-- rows do not change the references, and what is registered of units is put apart
 references_stand : (rs : List Row) (tables : Registered) → (put_rows rs tables).references ≡ tables.references
 references_stand [] tables = refl
 references_stand (r ∷ rs) tables = references_stand rs (put_row r tables)
 
-leads_stand : (rs : List Row) (tables : Registered) → (put_rows rs tables).leads ≡ tables.leads
-leads_stand [] tables = refl
-leads_stand (r ∷ rs) tables = leads_stand rs (put_row r tables)
+units_stand : (rs : List Row) (tables : Registered) → registered_units (put_rows rs tables) ≡ registered_units tables
+units_stand [] tables = refl
+units_stand (r ∷ rs) tables = units_stand rs (put_row r tables)
 
--- the steps of rows make of the registrations what the rows make of them
-stepped_behind : (first more : List LeadStep) (leads : Leads) → leads_after_steps (first ++ more) leads ≡ leads_after_steps more (leads_after_steps first leads)
-stepped_behind [] more leads = refl
-stepped_behind (s ∷ first) more leads = stepped_behind first more (leads_stepped s leads)
+whole_load : (w : LoadChangeView) (steps : List UnitStep) (c : Content) → steps ≡ steps_of_rows w.rows (registered_units c.registered)
+    → with_references w.references (with_unit_steps steps (with_file_rows w.rows (with_file w.key w.file c))) ≡ effect_of_load w c
+whole_load w steps c are = λ i. record c {
+  registered = record (put_rows w.rows c.registered) {
+    references = put_all bytes_cmp w.references (references_stand w.rows c.registered i);
+    units = (stepped i).units;
+    leads = (stepped i).leads;
+  };
+  files = put file_key_cmp w.key w.file c.files;
+}
+  where
+    stepped : registered_after_steps steps (registered_units (put_rows w.rows c.registered))
+        ≡ record { units = units_through w.rows c.registered.units; leads = leads_through w.rows c.registered.leads }
+    stepped =
+        ap (registered_after_steps steps) (units_stand w.rows c.registered)
+        ∙ ap (λ ss. registered_after_steps ss (registered_units c.registered)) are
+        ∙ rows_stepped w.rows (registered_units c.registered)
 
-change_stepped : (change : LeadChange) (leads : Leads) → leads_after_steps (steps_of change) leads ≡ leads_with change leads
-change_stepped change leads =
-    elim change.former as (λ f. leads_after_steps (former_steps f ++ step.Put change.key change.term ∷ []) leads ≡ put lead_key_cmp change.key change.term (beside_former f leads)) [
-      | former.Absent ↦ refl
-      | former.Replaced key ↦ refl
-      | former.Ended key term ↦ refl
-    ]
-
-row_stepped : (r : Row) (leads : Leads) → leads_after_steps (steps_of_row r leads) leads ≡ leads_with_row r leads
-row_stepped (row.Unit r) leads = change_stepped (lead_change leads r) leads
-row_stepped (row.Party r) leads = refl
-row_stepped (row.Meter r) leads = refl
-row_stepped (row.Price r) leads = refl
-row_stepped (row.Contract r) leads = refl
-row_stepped (row.Reallocation r) leads = refl
-
-rows_stepped : (rs : List Row) (leads : Leads) → leads_after_steps (steps_of_rows rs leads) leads ≡ leads_through rs leads
-rows_stepped [] leads = refl
-rows_stepped (r ∷ rs) leads =
-    stepped_behind (steps_of_row r leads) (steps_of_rows rs (leads_with_row r leads)) leads
-    ∙ ap (leads_after_steps (steps_of_rows rs (leads_with_row r leads))) (row_stepped r leads)
-    ∙ rows_stepped rs (leads_with_row r leads)
-
-whole_load : (w : LoadChangeView) (steps : List LeadStep) (c : Content) → steps ≡ steps_of_rows w.rows c.registered.leads
-    → with_references w.references (with_lead_steps steps (with_file_rows w.rows (with_file w.key w.file c))) ≡ effect_of_load w c
-whole_load w steps c are =
-    ap (λ references. record c {
-      registered = record (put_rows w.rows c.registered) { references = put_all bytes_cmp w.references references; leads = leads_after_steps steps (put_rows w.rows c.registered).leads };
-      files = put file_key_cmp w.key w.file c.files;
-    }) (references_stand w.rows c.registered)
-    ∙ ap (λ leads. record c {
-      registered = record (put_rows w.rows c.registered) { references = put_all bytes_cmp w.references c.registered.references; leads = leads };
-      files = put file_key_cmp w.key w.file c.files;
-    }) (ap (leads_after_steps steps) (leads_stand w.rows c.registered) ∙ ap (λ ss. leads_after_steps ss c.registered.leads) are ∙ rows_stepped w.rows c.registered.leads)
-
-load_written : (w : LoadChangeView) (steps : List LeadStep) (old first second third new : Database) → Puts forms.files w.key w.file old first → Becomes (with_file_rows w.rows) first second → Becomes (with_lead_steps steps) second third
-    → PutsAll forms.references w.references third new → Becomes (λ c. with_references w.references (with_lead_steps steps (with_file_rows w.rows (with_file w.key w.file c)))) old new
+load_written : (w : LoadChangeView) (steps : List UnitStep) (old first second third new : Database) → Puts forms.files w.key w.file old first → Becomes (with_file_rows w.rows) first second → Becomes (with_unit_steps steps) second third
+    → PutsAll forms.references w.references third new → Becomes (λ c. with_references w.references (with_unit_steps steps (with_file_rows w.rows (with_file w.key w.file c)))) old new
 load_written w steps old first second third new file rows leads references =
-    becomes_then (λ c. with_lead_steps steps (with_file_rows w.rows (with_file w.key w.file c))) (with_references w.references) old third new
-    (becomes_then (λ c. with_file_rows w.rows (with_file w.key w.file c)) (with_lead_steps steps) old second third
+    becomes_then (λ c. with_unit_steps steps (with_file_rows w.rows (with_file w.key w.file c))) (with_references w.references) old third new
+    (becomes_then (λ c. with_file_rows w.rows (with_file w.key w.file c)) (with_unit_steps steps) old second third
     (becomes_then (with_file w.key w.file) (with_file_rows w.rows) old first second (file_put old first w.key w.file file) rows) leads)
     (references_put third new w.references references)
 
 -- what is written is the load, if the steps are those of its rows
-load_stored : (w : LoadChangeView) (steps : List LeadStep) (old new : Database) → Becomes (λ c. with_references w.references (with_lead_steps steps (with_file_rows w.rows (with_file w.key w.file c)))) old new
+load_stored : (w : LoadChangeView) (steps : List UnitStep) (old new : Database) → Becomes (λ c. with_references w.references (with_unit_steps steps (with_file_rows w.rows (with_file w.key w.file c)))) old new
     → StoresLoadAlone w steps old new
 load_stored w steps old new written = record {
   stores = record { stays = written.stays; content = λ are kept. written.content kept ∙ whole_load w steps (content_of kept old.trees) are };
   beside = written.beside;
 }
 
-pub load_made : {X E : Type 0} (w : LoadChangeView) (steps : List LeadStep) (key : FileKey) (file : KeptFileView) (rows : List Row) (references : List (List ℕ × Counterparties))
+pub load_made : {X E : Type 0} (w : LoadChangeView) (steps : List UnitStep) (key : FileKey) (file : KeptFileView) (rows : List Row) (references : List (List ℕ × Counterparties))
     → key ≡ w.key → file ≡ w.file → rows ≡ w.rows → references ≡ w.references → (old first second third new : Database) (result : Result X E)
-    → Puts forms.files key file old first → Becomes (with_file_rows rows) first second → Becomes (with_lead_steps steps) second third → OnOk result (PutsAll forms.references references third new)
+    → Puts forms.files key file old first → Becomes (with_file_rows rows) first second → Becomes (with_unit_steps steps) second third → OnOk result (PutsAll forms.references references third new)
     → OnOk result (StoresLoadAlone w steps old new)
 load_made w steps key file rows references is_key is_file is_rows is_references old first second third new result filed rowed led referred = on_ok_weaker result (λ put. load_stored w steps old new (load_written w steps old first second third new
     (subst (λ (k : FileKey). Puts forms.files k w.file old first) is_key (subst (λ (f : KeptFileView). Puts forms.files key f old first) is_file filed))

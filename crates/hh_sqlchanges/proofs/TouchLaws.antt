@@ -1,5 +1,5 @@
 -- The Settlement Periods that rows touch are put into a set, one after the other.
-use Rattle.std.proofs.Common.{◌≡◌, ◌∙◌, ℕ, ◌+◌, ◌<◌, List, [], ◌∷◌, ◌++◌, Bool, true, false, length, take, get_or, refl, sym, ap, subst, Some, None}
+use Rattle.std.proofs.Common.{◌≡◌, ◌∙◌, ℕ, ◌+◌, ◌<◌, List, [], ◌∷◌, ◌++◌, Bool, true, false, length, take, get_or, refl, sym, ap, subst, Some, None, append_assoc}
 use Rattle.std.specs.Prelude.{◌||◌, filter_map}
 use Rattle.std.specs.BTreeSet.{insert_key}
 use Rattle.std.specs.Ordering.{match_ordering}
@@ -44,18 +44,32 @@ touched_next : (rows : List Row) (i : ℕ) (r : Row) → i < length rows → r �
     → filter_map touched_by (take (i + 1) rows) ≡ filter_map touched_by (take i rows) ++ cons_option (touched_by r) []
 touched_next rows i r inside is = ap (filter_map touched_by) (take_next rows i r inside is) ∙ filter_map-append touched_by (take i rows) (r ∷ [])
 
-pub touches : (rows : List Row) (i : ℕ) (r : Row) (at : SettlementPeriod) (keys : List SettlementPeriod) → i < length rows → r ≡ get_or rows i r → touched_by r ≡ Some at
-    → HaveTheSame keys (filter_map touched_by (take i rows)) → HaveTheSame (insert_key settlement_period_cmp keys at) (filter_map touched_by (take (i + 1) rows))
-touches rows i r at keys inside is some so_far q =
+-- with one period more, a set has the same as the list with the period behind
+pub same_with_one : (ps : List SettlementPeriod) (at : SettlementPeriod) (keys : List SettlementPeriod) → HaveTheSame keys ps → HaveTheSame (insert_key settlement_period_cmp keys at) (ps ++ at ∷ [])
+same_with_one ps at keys so_far q =
     among_insert q at keys
-    ∙ (ap (λ b. eq_by_cmp settlement_period_cmp at q || b) (so_far q)
-    ∙ (or_last (eq_by_cmp settlement_period_cmp at q) (is_among (filter_map touched_by (take i rows)) q)
-    ∙ (sym (among_both (filter_map touched_by (take i rows)) (at ∷ []) q)
-    ∙ sym (ap (λ ps. is_among ps q) (touched_next rows i r inside is ∙ ap (λ o. filter_map touched_by (take i rows) ++ cons_option o []) some)))))
+    ∙ ap (λ b. eq_by_cmp settlement_period_cmp at q || b) (so_far q)
+    ∙ or_last (eq_by_cmp settlement_period_cmp at q) (is_among ps q)
+    ∙ sym (among_both ps (at ∷ []) q)
 
-pub touches_none : (rows : List Row) (i : ℕ) (r : Row) (keys : List SettlementPeriod) → i < length rows → r ≡ get_or rows i r → touched_by r ≡ None
-    → HaveTheSame keys (filter_map touched_by (take i rows)) → HaveTheSame keys (filter_map touched_by (take (i + 1) rows))
-touches_none rows i r keys inside is none so_far q =
-    so_far q
-    ∙ sym (ap (λ ps. is_among ps q) (touched_next rows i r inside is ∙ ap (λ o. filter_map touched_by (take i rows) ++ cons_option o []) none)
-    ∙ ap (λ ps. is_among ps q) (append-nil (filter_map touched_by (take i rows))))
+module _ (more : List SettlementPeriod) (rows : List Row) (i : ℕ) (r : Row) (keys : List SettlementPeriod) (inside : i < length rows) (is : r ≡ get_or rows i r)
+    (so_far : HaveTheSame keys (more ++ filter_map touched_by (take i rows))) where
+  -- what one more row touches, behind what was touched
+  touched_behind : (more ++ filter_map touched_by (take i rows)) ++ cons_option (touched_by r) [] ≡ more ++ filter_map touched_by (take (i + 1) rows)
+  touched_behind = append_assoc more (filter_map touched_by (take i rows)) (cons_option (touched_by r) []) ∙ ap (λ ps. more ++ ps) (sym (touched_next rows i r inside is))
+
+  pub touches : (at : SettlementPeriod) → touched_by r ≡ Some at → HaveTheSame (insert_key settlement_period_cmp keys at) (more ++ filter_map touched_by (take (i + 1) rows))
+  touches at some q =
+      same_with_one (more ++ filter_map touched_by (take i rows)) at keys so_far q
+      ∙ ap (λ ps. is_among ps q) (ap (λ o. (more ++ filter_map touched_by (take i rows)) ++ cons_option o []) (sym some) ∙ touched_behind)
+
+  pub touches_none : touched_by r ≡ None → HaveTheSame keys (more ++ filter_map touched_by (take (i + 1) rows))
+  touches_none none q =
+      so_far q
+      ∙ ap (λ ps. is_among ps q) (sym (append-nil (more ++ filter_map touched_by (take i rows)))
+      ∙ ap (λ o. (more ++ filter_map touched_by (take i rows)) ++ cons_option o []) (sym none) ∙ touched_behind)
+
+-- one more of a list of periods
+pub set_more : (ps : List SettlementPeriod) (i : ℕ) (at : SettlementPeriod) (keys : List SettlementPeriod) → i < length ps → at ≡ get_or ps i at → HaveTheSame keys (take i ps)
+    → HaveTheSame (insert_key settlement_period_cmp keys at) (take (i + 1) ps)
+set_more ps i at keys inside is so_far q = same_with_one (take i ps) at keys so_far q ∙ ap (λ qs. is_among qs q) (sym (take_next ps i at inside is))

@@ -7,11 +7,12 @@ use Rattle.hh_rows.specs.declared.settlement_period.SettlementPeriod.{Settlement
 use Rattle.hh_rules.specs.Positions.{position_key_cmp}
 use Rattle.hh_rules.specs.declared.positions.Position.{Position}
 use Rattle.hh_rules.specs.declared.positions.PositionKey.{PositionKey}
-use Rattle.hh_registrations.specs.LeadSteps.{steps_of_rows}
-use Rattle.hh_registrations.specs.declared.lead_steps.LeadStep.{LeadStep}
+use Rattle.hh_registrations.specs.UnitSteps.{steps_of_rows}
+use Rattle.hh_registrations.specs.declared.unit_steps.UnitStep.{UnitStep}
+use Rattle.hh_rules.specs.Leads.{registered_units}
 use Rattle.hh_states.specs.Changes.{LoadChangeView, RunChangeView, effect_of_load, effect_of_run}
 use Rattle.hh_beside.specs.DayLaws.{HaveTheSame}
-use Rattle.hh_sqlrows.specs.Contents.{beside_in, content_of, mark_in}
+use Rattle.hh_sqlrows.specs.Contents.{beside_in, content_of, mark_in, registered_of}
 use Rattle.hh_sqlrows.specs.Forms.{rows_under_keys}
 use Rattle.hh_sqlrows.specs.Office.{IsOffice}
 use Rattle.hh_sqlrows.specs.OfficeTables as forms
@@ -28,10 +29,10 @@ pub record StoresLoad (w : LoadChangeView) (old new : Database) : Type 0 where
   pub stays : StaysOffice old new
   pub content : (kept : Settings) → content_of kept new.trees ≡ effect_of_load w (content_of kept old.trees)
 
--- The load is written with these steps in the registrations of units: the content is the content after the load, if they are those of its rows.
-pub record StoresLoadBy (w : LoadChangeView) (steps : List LeadStep) (old new : Database) : Type 0 where
+-- The load is written with these steps in the tables of units and of registrations: the content is the content after the load, if they are those of its rows.
+pub record StoresLoadBy (w : LoadChangeView) (steps : List UnitStep) (old new : Database) : Type 0 where
   pub stays : StaysOffice old new
-  pub content : steps ≡ steps_of_rows w.rows (rows_under_keys forms.leads old.trees)
+  pub content : steps ≡ steps_of_rows w.rows (registered_units (registered_of old.trees))
       → (kept : Settings) → content_of kept new.trees ≡ effect_of_load w (content_of kept old.trees)
 
 -- The run is written: the content is the content after the run, if each of the run's rows is for the account that its key names.
@@ -42,7 +43,7 @@ pub record StoresRun (w : RunChangeView) (old new : Database) : Type 0 where
 
 -- The load is written. Beside the content, these positions replace those with their keys, and these Settlement Periods are touched as well
 -- as those that were.
-pub record ChangesByLoad (w : LoadChangeView) (steps : List LeadStep) (changed : List (PositionKey × Position))
+pub record ChangesByLoad (w : LoadChangeView) (steps : List UnitStep) (changed : List (PositionKey × Position))
     (periods : List SettlementPeriod) (old new : Database) : Type 0 where
   pub stores : StoresLoadBy w steps old new
   pub positions : (beside_in new.trees).positions ≡ put_all position_key_cmp changed (beside_in old.trees).positions

@@ -10,7 +10,7 @@ ghost use Rattle.hh_sqlchanges.specs.steps.FileRows.{with_file_row, with_file_ro
 use hh_names::Reading;
 use hh_num::Kwh;
 use hh_rows::{ContractKey, Row, UnitPeriod};
-use hh_sqlrows::tables::{Contracts, Meters, Parties, Prices, Reallocations, Units};
+use hh_sqlrows::tables::{Contracts, Meters, Parties, Prices, Reallocations};
 use hh_sqlrows::{GROUP, Grouped, RowFault, insert_group, replace};
 use sqlite::{Alter, Transaction};
 use std::alloc::{AllocError, Global};
@@ -152,7 +152,7 @@ fn write_each_row<S: Alter>(
     Ok(())
 }
 
-/// Writes a row of a file into the table of its kind.
+/// Writes a row of a file into the table of its kind. What rows of units change is written apart.
 fn write_file_row<S: Alter>(
     tx: &mut Transaction<'_, S>,
     alloc: Global,
@@ -163,7 +163,7 @@ fn write_file_row<S: Alter>(
 {
     match row {
         Row::Party(row) => replace::<Parties, S>(tx, alloc, &row.party, &row.registration),
-        Row::Unit(row) => replace::<Units, S>(tx, alloc, &row.unit, &row.registration),
+        Row::Unit(_) => Ok(()),
         Row::Meter(row) => replace::<Meters, S>(tx, alloc, &row.key, &row.reading),
         Row::Price(row) => replace::<Prices, S>(tx, alloc, &row.at, &row.price),
         Row::Contract(row) => { replace::<Contracts, S>(tx, alloc, &row.key, &row.contract.volume) }

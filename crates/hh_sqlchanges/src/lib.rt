@@ -9,11 +9,11 @@
 
 mod beside_writing;
 mod file_rows;
-mod lead_writing;
 mod load_writing;
 mod own_accounts;
 mod run_writing;
 mod touching;
+mod unit_writing;
 
 pub use beside_writing::write_beside_anew;
 pub use hh_beside::{load_effect, run_effect};

@@ -1,6 +1,6 @@
 //! Which Settlement Periods the rows of an accepted file touch.
 
-ghost use Rattle.std.specs.Prelude.{◌≡◌, IfOk, filter_map};
+ghost use Rattle.std.specs.Prelude.{◌≡◌, ◌++◌, IfOk, filter_map};
 ghost use Rattle.std.specs.List.Sorted.{IsStrictlySortedBy};
 ghost use Rattle.hh_rows.specs.Keys.{settlement_period_cmp};
 ghost use Rattle.hh_beside.specs.DayLaws.{HaveTheSame};
@@ -10,19 +10,38 @@ use hh_rows::{Row, SettlementPeriod};
 use std::alloc::{AllocError, Global};
 use std::collections::BTreeSet;
 
-/// The Settlement Periods that rows touch, if the rows are in time. Each is listed once, in order.
-pub fn periods_touched_by(alloc: Global, rows: &[Row]) -> Result<Vec<SettlementPeriod>, AllocError>
+/// These Settlement Periods, and those that rows touch by themselves, if the rows are in time. Each is
+/// listed once, in order.
+pub fn periods_touched_by(
+    alloc: Global,
+    more: &[SettlementPeriod],
+    rows: &[Row],
+) -> Result<Vec<SettlementPeriod>, AllocError>
     ensures same { IfOk result (λ found.
-        HaveTheSame found.items (filter_map touched_by rows.now)) }
+        HaveTheSame found.items (more.now ++ filter_map touched_by rows.now)) }
     ensures once { IfOk result (λ found. IsStrictlySortedBy settlement_period_cmp found.items) }
 {
-    let mut found = BTreeSet::new(alloc);
+    let mut found = set_of(alloc, more)?;
     for row in rows {
         if let Some(at) = period_of(row) {
             found.insert(at)?;
         }
     }
     periods_of(alloc, found)
+}
+
+/// The set of these Settlement Periods.
+fn set_of(
+    alloc: Global,
+    periods: &[SettlementPeriod],
+) -> Result<BTreeSet<SettlementPeriod>, AllocError>
+    ensures { IfOk result (λ set. HaveTheSame set.keys periods.now) }
+{
+    let mut set = BTreeSet::new(alloc);
+    for at in periods {
+        set.insert(*at)?;
+    }
+    Ok(set)
 }
 
 /// The Settlement Periods of a set.

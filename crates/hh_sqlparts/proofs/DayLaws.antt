@@ -128,6 +128,7 @@ pub rows_of_day_part : (date : ℕ) (whole : Registered) → T (is_sorted contra
 rows_of_day_part date whole contracts_rise rises part_rises = record {
   parties = refl;
   units = refl;
+  leads = refl;
   prices = λ at on. tested_kept settlement_period_cmp exact_settlement_periods whole.prices (λ q. is_eq (nat_cmp q.date date)) at (is_on at.date date on);
   of_units = unit_agrees date whole (day_part date whole) refl refl rises part_rises;
   contracts = has_contracts date whole (day_part date whole) contracts_rise refl refl;

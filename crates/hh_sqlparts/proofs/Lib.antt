@@ -1,6 +1,5 @@
 pub mod BesideLaws
 pub mod DayLaws
-mod LeadStepLaws
 pub mod MovedLaws
 pub mod NamedForms
 pub mod NamedNames
@@ -10,3 +9,4 @@ pub mod NamedTables
 pub mod PositionsAnew
 pub mod ReadingLaws
 pub mod TouchLaws
+mod UnitStepLaws

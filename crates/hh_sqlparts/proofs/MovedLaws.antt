@@ -71,7 +71,7 @@ in_force volumes = record nothing_registered { contracts = volumes }
 agrees_by_volume : (whole part : Table ContractKey ℤ) (r : Row) → IfSome (volume_key_of r) (λ k. find contract_key_cmp k part ≡ find contract_key_cmp k whole) → AgreesOn (in_force whole) (in_force part) r
 unfolding in_force
 agrees_by_volume whole part (row.Party r) volume = refl
-agrees_by_volume whole part (row.Unit r) volume = (refl, refl, refl)
+agrees_by_volume whole part (row.Unit r) volume = (refl, refl, refl, refl)
 agrees_by_volume whole part (row.Meter r) volume = (refl, refl, refl)
 agrees_by_volume whole part (row.Price r) volume = refl
 agrees_by_volume whole part (row.Contract r) volume = (refl, refl, refl, volume)

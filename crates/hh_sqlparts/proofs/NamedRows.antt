@@ -5,12 +5,22 @@ use Rattle.std.specs.Cmp.{IsTotalOrder, Equal-is, eq_by_cmp_equiv}
 use Rattle.std.specs.FinMap.{find, is_sorted, put}
 use Rattle.std.specs.FinMap.Entries.{below_all, find-put, find-where_key, find_tied, is_sorted-where_key, same_entries}
 use Rattle.std.specs.List.{All, AllByRecursion, flat_map, list_any}
+use Rattle.std.specs.Option.{IfSome}
 use Rattle.std.specs.Ordering.{eq_by_cmp, is_eq, ordering_reverse}
 use Rattle.std.specs.declared.cmp.Ordering.TheVariants.{Equal, Greater}
 use Rattle.std.proofs.lemmas.List.Elements.{All-append, All-filter, All-from_recursion, All-nil, recursion_from_All}
-use Rattle.hh_tables.specs.Tables.{Table, put_all}
+use Rattle.hh_tables.specs.Tables.{IsTable, Table, put_all}
 use Rattle.hh_tables.proofs.RowLaws.{first, less, second}
-use Rattle.hh_sqlparts.specs.steps.Named.{entry_under, found_entry}
+use Rattle.hh_names.specs.declared.values.Reallocation.{Reallocation}
+use Rattle.hh_rows.specs.declared.keys.ReallocationKey.{ReallocationKey}
+use Rattle.hh_rows.specs.declared.rows.Row.{Row}
+use Rattle.hh_rows.specs.Keys.{reallocation_key_cmp}
+use Rattle.hh_sqlparts.specs.steps.Named.{entry_under, found_entry, reallocations_of, unit_of}
+
+-- for the units of rows, the part has the reallocations that the whole has
+abbrev pub HasReallocations : List Row → Table ReallocationKey Reallocation → Table ReallocationKey Reallocation → Type 0
+HasReallocations rows whole part =
+    IsTable reallocation_key_cmp part × All (λ r. IfSome (unit_of r) (λ unit. reallocations_of part unit ≡ reallocations_of whole unit)) rows
 
 -- what holds for all items of several lists holds for all items of the joined list
 all_flat : {N X : Type 0} (P : X → Type 0) (rows : N → List X) → ((n : N) → All P (rows n)) → (ns : List N) → All P (flat_map rows ns)

@@ -1,7 +1,7 @@
 -- Tables of rows that are read by names from a whole table. Under the keys of the rows of a file, from which the names come, they have what
 -- the whole has.
 use Rattle.std.proofs.Common.{◌≡◌, ℕ, List, [], true, cond, refl, sym, ap, subst, ◌∙◌, Option, Some, None, Ordering}
-use Rattle.std.specs.Prelude.{ℤ, option_map, T}
+use Rattle.std.specs.Prelude.{ℤ, filter, option_map, T}
 use Rattle.std.specs.BTreeMap.{is_at}
 use Rattle.std.specs.Cmp.{IsTotalOrder, Equal-is}
 use Rattle.std.specs.FinMap.{find, is_sorted}
@@ -9,6 +9,7 @@ use Rattle.std.specs.List.{All, flat_map, list_any}
 use Rattle.std.specs.Option.{IfSome}
 use Rattle.std.specs.Ordering.{eq_by_cmp, is_eq, nat_cmp, on, then_cmp}
 use Rattle.std.proofs.lemmas.List.Elements.{All-weaker}
+use Rattle.std.proofs.lemmas.Map.Lookups.{exact_bytes}
 use Rattle.hh_tables.specs.Tables.{IsTable, Table, put_all}
 use Rattle.hh_tables.proofs.MergeLaws.{from_true, put_all_is_table}
 use Rattle.hh_names.specs.Accounts.{bytes_cmp}
@@ -29,8 +30,8 @@ use Rattle.hh_rules.specs.declared.positions.PositionKey.{PositionKey}
 use Rattle.hh_kept_rows.proofs.PositionKeys.{position_key_total}
 use Rattle.hh_sqlrows.specs.OfficeTables.{is_of_unit_on}
 use Rattle.hh_sqlrows.specs.declared.unit_date.UnitDate.{UnitDate}
-use Rattle.hh_sqlparts.specs.steps.Named.{FindsNamed, HasReallocated, IsAmong, date_of, entry_under, price_key_of, prices_of, reading_key_of, readings_of, reallocated_at, reallocated_of, reallocations_of, reference_of, unit_day, unit_day_of, unit_of, volume_key_of}
-use Rattle.hh_sqlparts.proofs.NamedRows.{IsOf, entry_found, entry_is, find_named, same_tested, tested_are, tested_found}
+use Rattle.hh_sqlparts.specs.steps.Named.{FindsNamed, IsAmong, date_of, entry_under, price_key_of, prices_of, reading_key_of, readings_of, reallocations_of, reference_of, unit_day, unit_day_of, unit_of, volume_key_of}
+use Rattle.hh_sqlparts.proofs.NamedRows.{HasReallocations, IsOf, entry_found, entry_is, find_named, same_tested, tested_are, tested_found}
 
 -- order by unit, then by date
 abbrev pub unit_day_cmp : UnitDate → UnitDate → Ordering
@@ -56,7 +57,8 @@ reallocation_found whole unit = tested_found reallocation_key_cmp exact_realloca
 
 -- If two tables have the same under the keys of a unit in a Settlement Period, they have the same reallocations of it.
 pub same_reallocated : (whole part : Table ReallocationKey Reallocation) → T (is_sorted reallocation_key_cmp whole) → T (is_sorted reallocation_key_cmp part) → (at : UnitPeriod)
-    → ((k : ReallocationKey) → k.unit_period ≡ at → find reallocation_key_cmp k part ≡ find reallocation_key_cmp k whole) → reallocated_at at part ≡ reallocated_at at whole
+    → ((k : ReallocationKey) → k.unit_period ≡ at → find reallocation_key_cmp k part ≡ find reallocation_key_cmp k whole)
+    → filter (λ e. eq_by_cmp unit_period_cmp e.0.unit_period at) part ≡ filter (λ e. eq_by_cmp unit_period_cmp e.0.unit_period at) whole
 same_reallocated whole part rising ordered at alike =
     same_tested reallocation_key_cmp reallocation_key_total whole rising exact_reallocation_keys (λ k. eq_by_cmp unit_period_cmp k.unit_period at) part ordered
     (λ k here. alike k (exact_unit_periods k.unit_period at ((Equal-is (unit_period_cmp k.unit_period at)).0 here)))
@@ -131,17 +133,21 @@ module _ (rows : List Row) where
     selected_rises : IsTable reallocation_key_cmp selected
     selected_rises = put_all_is_table reallocation_key_total (flat_map (reallocations_of whole) names) [] refl
 
-    reallocated_alike : (at : UnitPeriod) → list_any (is_at (bytes_cmp at.unit)) names ≡ true → reallocated_at at selected ≡ reallocated_at at whole
-    reallocated_alike at named =
-        same_reallocated whole selected order (from_true _ selected_rises) at
-        (λ k here. finds_reallocated k (subst (λ (u : UnitPeriod). list_any (is_at (bytes_cmp u.unit)) names ≡ true) (sym here) named))
+    reallocated_alike : (unit : List ℕ) → list_any (is_at (bytes_cmp unit)) names ≡ true → reallocations_of selected unit ≡ reallocations_of whole unit
+    reallocated_alike unit named =
+        same_tested reallocation_key_cmp reallocation_key_total whole order exact_reallocation_keys (λ k. is_eq (bytes_cmp k.unit_period.unit unit)) selected (from_true _ selected_rises)
+        (λ k here. finds_reallocated k (subst (λ u. list_any (is_at (bytes_cmp u)) names ≡ true) (sym (exact_bytes k.unit_period.unit unit ((Equal-is (bytes_cmp k.unit_period.unit unit)).0 here))) named))
+
+    of_unit : (o : Option (List ℕ)) → IfSome o (λ n. list_any (is_at (bytes_cmp n)) names ≡ true) → IfSome o (λ unit. reallocations_of selected unit ≡ reallocations_of whole unit)
+    of_unit None h = h
+    of_unit (Some unit) h = reallocated_alike unit h
 
     pub reallocations_named : All (IsAmong bytes_cmp unit_of names) rows → (found part : Table ReallocationKey Reallocation)
         → found ≡ flat_map (reallocations_of whole) names → part ≡ put_all reallocation_key_cmp found []
-        → HasReallocated rows whole part
+        → HasReallocations rows whole part
     reallocations_named among found part is became =
-        subst (HasReallocated rows whole) (sym (became ∙ ap (λ es. put_all reallocation_key_cmp es []) is)) (
+        subst (HasReallocations rows whole) (sym (became ∙ ap (λ es. put_all reallocation_key_cmp es []) is)) (
           selected_rises,
-          All-weaker (IsAmong bytes_cmp unit_of names) (λ r. IfSome (reallocated_of r) (λ at. reallocated_at at selected ≡ reallocated_at at whole))
-              (λ r here. by_name (λ at. at.unit) (λ n. list_any (is_at (bytes_cmp n)) names ≡ true) (λ at. reallocated_at at selected ≡ reallocated_at at whole) reallocated_alike (reallocated_of r) here) rows among,
+          All-weaker (IsAmong bytes_cmp unit_of names) (λ r. IfSome (unit_of r) (λ unit. reallocations_of selected unit ≡ reallocations_of whole unit))
+              (λ r here. of_unit (unit_of r) here) rows among,
         )

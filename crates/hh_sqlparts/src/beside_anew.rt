@@ -165,7 +165,7 @@ fn select_periods_of_runs<S: Alter>(
 }
 
 /// The Settlement Periods of these runs. `Store` if a run has more than any date has.
-fn periods_of_runs(
+pub(crate) fn periods_of_runs(
     alloc: Global,
     made: &[(RunKey, Summary)],
 ) -> Result<Vec<SettlementPeriod>, RowFault>

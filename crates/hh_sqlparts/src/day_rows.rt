@@ -11,7 +11,7 @@ ghost use Rattle.hh_sqlparts.specs.steps.DayParts.{with_registered, with_rows_of
 
 use crate::day_contracts::select_contracts;
 use crate::day_units::{ids_on, unit_days};
-use crate::tables::{all_parties, all_units, table_of};
+use crate::tables::{all_leads, all_parties, all_units, table_of};
 use hh_kept_rows::KeptRegister;
 use hh_names::UnitId;
 use hh_sqlrows::tables::{Meters, Prices, Reallocations};
@@ -20,9 +20,9 @@ use hh_time::SettlementDate;
 use sqlite::{Alter, Connection};
 use std::alloc::Global;
 
-/// Everything from which a Settlement Day is settled: all parties and units; the prices of the date; its
-/// contracts with the sellers and buyers of their references; and the readings and reallocations of the
-/// units that are effective on it.
+/// Everything from which a Settlement Day is settled: all parties, units and registrations of units; the
+/// prices of the date; its contracts with the sellers and buyers of their references; and the readings and
+/// reallocations of the units that are effective on it.
 pub fn select_day<S: Alter>(
     conn: &mut Connection<S>,
     alloc: Global,
@@ -39,7 +39,7 @@ pub fn select_day<S: Alter>(
     Ok(part)
 }
 
-/// Adds all parties and units, and the prices of a date, to a part.
+/// Adds all parties, units and registrations of units, and the prices of a date, to a part.
 fn select_registered<S: Alter>(
     conn: &mut Connection<S>,
     alloc: Global,
@@ -52,6 +52,7 @@ fn select_registered<S: Alter>(
 {
     part.parties = all_parties(conn, alloc)?;
     part.units = all_units(conn, alloc)?;
+    part.leads = all_leads(conn, alloc)?;
     part.prices = table_of(select_under::<Prices, SettlementDate, S>(conn, alloc, &date)?)?;
     Ok(())
 }

@@ -72,13 +72,14 @@ impl Name for SettlementDate {
     }
 }
 
-/// The unit of a reallocation.
+/// The unit whose reallocations a row is judged by.
 impl Name for UnitId {
     ghost name_of = { unit_of };
 
     fn of_row(row: &Row) -> Option<UnitId> {
         match row {
             Row::Reallocation(row) => Some(row.key.unit_period.unit),
+            Row::Unit(row) => Some(row.unit),
             _ => None,
         }
     }

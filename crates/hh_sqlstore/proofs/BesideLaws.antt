@@ -51,13 +51,13 @@ module _ (kept : Settings) (old new : Database) (marked : mark_in old.trees ≡ 
       → stored_content kept new.trees ≡ effect_of_load w (stored_content kept old.trees)
   load_kept effect agree midnight w (s, load, stands, can, is) keeps =
       let before = in_state (tables_of midnight s) refl stands.1 in
-      let alike : AreAlike (beside_in new.trees) (beside_with_load w (tables_of midnight s).registered (beside_in old.trees)) =
-      subst (λ (c : Content). AreAlike (beside_in new.trees) (beside_with_load w c.registered (beside_in old.trees))) before.0 keeps.1 in
+      let alike : AreAlike (beside_in new.trees) (beside_with_load w (tables_of midnight s) (beside_in old.trees)) =
+      subst (λ (c : Content). AreAlike (beside_in new.trees) (beside_with_load w c (beside_in old.trees))) before.0 (keeps.1 kept) in
       let after = effect midnight s load stands.0 can in
       let made : content_of kept new.trees ≡ effect_of_load w (tables_of midnight s) = keeps.0.content kept ∙ ap (effect_of_load w) before.0 in
       let is_after : effect_of_load w (tables_of midnight s) ≡ tables_of midnight (Rattle.hh_states.specs.Steps.after_load midnight s load) = ap (λ x. effect_of_load x (tables_of midnight s)) is ∙ sym after in
       let agreeing = agree midnight s load (beside_in old.trees) (beside_in new.trees) stands.0 can before.1
-      (subst (λ x. AreAlike (beside_in new.trees) (beside_with_load x (tables_of midnight s).registered (beside_in old.trees))) is alike) in
+      (subst (λ x. AreAlike (beside_in new.trees) (beside_with_load x (tables_of midnight s) (beside_in old.trees))) is alike) in
       stored_as (effect_of_load w (tables_of midnight s)) made (subst (λ (c : Content). IsTrue (agrees c (beside_in new.trees))) (sym is_after) agreeing) refl
       ∙ ap (effect_of_load w) (sym stands.1)
 

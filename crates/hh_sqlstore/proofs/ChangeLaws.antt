@@ -1,6 +1,6 @@
 -- Tables that a transaction has changed, or tried to change, and their content.
 use Rattle.std.specs.Prelude.{List, filter_map}
-use Rattle.std.proofs.Common.{◌≡◌, ◌∙◌, ◌⊎◌, inl, inr, ℕ, ℤ, true, false, IsTrue, Option, Some, None, Ok, ap, refl, subst, sym}
+use Rattle.std.proofs.Common.{◌≡◌, ◌∙◌, ◌⊎◌, ◌++◌, inl, inr, ℕ, ℤ, true, false, IsTrue, Option, Some, None, Ok, ap, refl, subst, sym}
 use Rattle.std.specs.Global.{Vec}
 use Rattle.std.specs.FinMap.{find}
 use Rattle.sqlite_trees.specs.declared.store.Store.{Ghosts}
@@ -14,18 +14,19 @@ use Rattle.hh_states.specs.Content.{Content}
 use Rattle.hh_states.specs.declared.run_keys.PostingKey.{PostingKey}
 use Rattle.hh_tables.specs.Tables.{put_all}
 use Rattle.hh_rows.specs.declared.settlement_period.SettlementPeriod.{SettlementPeriod}
-use Rattle.hh_registrations.specs.LeadSteps.{steps_of_rows}
-use Rattle.hh_registrations.specs.declared.lead_steps.LeadStep.{LeadStep}
+use Rattle.hh_registrations.specs.UnitSteps.{steps_of_rows}
+use Rattle.hh_registrations.specs.declared.unit_steps.UnitStep.{UnitStep}
+use Rattle.hh_rules.specs.Leads.{registered_units}
 use Rattle.hh_rules.specs.Positions.{position_key_cmp}
 use Rattle.hh_rules.specs.declared.positions.Position.{Position}
 use Rattle.hh_rules.specs.declared.positions.PositionKey.{PositionKey}
 use Rattle.hh_states.specs.Changes.{LoadChangeView}
 use Rattle.hh_sqlparts.specs.DayLaws.{HaveTheSame}
-use Rattle.hh_sqlparts.specs.Keeping.{positions_with, touched_by}
-use Rattle.hh_sqlrows.specs.Contents.{beside_in, mark_in, registered_of, stored_content}
+use Rattle.hh_sqlparts.specs.Keeping.{positions_with, touched_by, touched_by_successions}
+use Rattle.hh_sqlrows.specs.Contents.{beside_in, content_of, mark_in, registered_of, stored_content}
 use Rattle.hh_sqlrows.specs.Forms.{rows_under_keys}
 use Rattle.hh_sqlrows.specs.Office.{IsOffice}
-use Rattle.hh_sqlrows.specs.OfficeTables.{leads, one_row_cmp}
+use Rattle.hh_sqlrows.specs.OfficeTables.{leads, one_row_cmp, runs}
 use Rattle.hh_sqlrows.specs.Reads.{IsHonest, ReadsSettled}
 use Rattle.hh_sqlchanges.specs.Writes.{ChangesByLoad, StaysOffice}
 use Rattle.hh_sqlchanges.proofs.BesideLaws.{alike_after_load}
@@ -39,13 +40,15 @@ use Rattle.hh_sqlrows.specs.Leaving.{IsUndone}
 use Rattle.hh_sqlstore.proofs.ContentLaws.{holds_content}
 
 -- a load that was written is kept, if its steps, positions and touched Settlement Periods are those of its rows
-pub load_kept : (w : LoadChangeView) (steps : List LeadStep) (changed : List (PositionKey × Position)) (periods : List SettlementPeriod) (old new : Database) → ChangesByLoad w steps changed periods old new
-    → steps ≡ steps_of_rows w.rows (rows_under_keys leads old.trees)
-    → put_all position_key_cmp changed (beside_in old.trees).positions ≡ positions_with w.rows (registered_of old.trees).contracts (beside_in old.trees).positions → HaveTheSame periods (filter_map touched_by w.rows)
+pub load_kept : (w : LoadChangeView) (steps : List UnitStep) (changed : List (PositionKey × Position)) (periods more : List SettlementPeriod) (old new : Database) → ChangesByLoad w steps changed periods old new
+    → steps ≡ steps_of_rows w.rows (registered_units (registered_of old.trees))
+    → put_all position_key_cmp changed (beside_in old.trees).positions ≡ positions_with w.rows (registered_of old.trees).contracts (beside_in old.trees).positions
+    → more ≡ touched_by_successions w.rows (rows_under_keys leads old.trees) (rows_under_keys runs old.trees) → HaveTheSame periods (more ++ filter_map touched_by w.rows)
     → KeepsLoad w old new
-load_kept w steps changed periods old new written are positions touched = (
+load_kept w steps changed periods more old new written are positions held touched = (
   record { stays = written.stores.stays; content = written.stores.content are },
-  alike_after_load w (registered_of old.trees) steps changed periods old new written positions touched,
+  λ kept. alike_after_load w (content_of kept old.trees) steps changed periods old new written positions
+      (subst (λ (ps : List SettlementPeriod). HaveTheSame periods (ps ++ filter_map touched_by w.rows)) held touched),
 )
 
 -- a transaction that was undone has only read

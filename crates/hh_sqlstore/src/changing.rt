@@ -10,7 +10,7 @@ ghost use Rattle.hh_sqlrows.specs.Leaving.{IsUndone, MayStand};
 ghost use Rattle.hh_sqlstore.specs.steps.Changed.{ChangesNothing, IsChangedBy, KeepsLoad, KeepsRun, MayChange};
 
 use hh_keyed_rows::RowFault;
-use hh_registrations::LeadStep;
+use hh_registrations::UnitStep;
 use hh_rows::SettlementPeriod;
 use hh_rules::{Position, PositionKey};
 use hh_sqlchanges::{periods_touched_by, write_load, write_run};
@@ -44,24 +44,24 @@ pub(crate) fn keep_load<S: Alter>(
     ensures autocommit { connection.new.in_transaction ≡ false }
 {
     let read = select_before_load(connection, alloc, change.rows())?;
-    let touched = periods_touched_by(alloc, change.rows())?;
+    let touched = periods_touched_by(alloc, &read.touched, change.rows())?;
     commit_load(
         connection,
         alloc,
         change,
-        &read.leads,
+        &read.steps,
         &read.positions,
         &touched,
     )
 }
 
-/// Writes an accepted file with these steps in the registrations of units, positions and touched Settlement
-/// Periods, whole or not at all.
+/// Writes an accepted file with these steps in the tables of units and of registrations, positions and
+/// touched Settlement Periods, whole or not at all.
 fn commit_load<S: Alter>(
     connection: &mut Connection<S>,
     alloc: Global,
     change: &LoadChange,
-    leads: &[LeadStep],
+    steps: &[UnitStep],
     positions: &[(PositionKey, Position)],
     touched: &[SettlementPeriod],
 ) -> Result<(), RowFault>
@@ -71,19 +71,19 @@ fn commit_load<S: Alter>(
     ensures made { let old = state S.Store connection.old in
         let new = state S.Store connection.new in
         HasCleanDisk new → OnOk result (IsChangedBy
-        (ChangesByLoad change.now leads.now positions.now touched.now) old new) }
+        (ChangesByLoad change.now steps.now positions.now touched.now) old new) }
     ensures undone { let old = state S.Store connection.old in
         let new = state S.Store connection.new in
         OnErr result (IsUndone old new) }
     ensures crash { let old = state S.Store connection.old in
         let new = state S.Store connection.new in
         IsOffice old.now → Survives old new (MayStand
-        (ChangesByLoad change.now leads.now positions.now touched.now old.now)) }
+        (ChangesByLoad change.now steps.now positions.now touched.now old.now)) }
     ensures honest { IsHonest (state S.Store connection.old) (state S.Store connection.new) }
     ensures autocommit { connection.new.in_transaction ≡ false }
 {
     let mut tx = connection.transaction();
-    write_load(&mut tx, alloc, change, leads, positions, touched)?;
+    write_load(&mut tx, alloc, change, steps, positions, touched)?;
     match tx.commit() {
         Ok(()) => Ok(()),
         Err(error) => Err(RowFault::from(error)),

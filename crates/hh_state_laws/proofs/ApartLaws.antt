@@ -8,6 +8,8 @@ use Rattle.std.specs.List.{AllByRecursion, flat_map}
 use Rattle.std.specs.Ordering.{eq_by_cmp, is_eq, is_lt, ordering_then}
 use Rattle.std.specs.declared.cmp.Ordering.TheVariants.{Less, Equal, Greater}
 use Rattle.std.proofs.lemmas.List.{append-nil}
+use Rattle.std.proofs.lemmas.Option.{same_Some}
+use Rattle.hh_tables.specs.Ends.{last_of}
 use Rattle.hh_tables.specs.Tables.{in_key_order, put_all}
 use Rattle.hh_state_laws.proofs.LoadLaws.{in_key_order-append}
 
@@ -28,6 +30,21 @@ module _ {X : Type 0} (P : X → Type 0) where
   pub all-weaken : (Q : X → Type 0) → ((x : X) → P x → Q x) → (xs : List X) → AllByRecursion P xs → AllByRecursion Q xs
   all-weaken Q weaker [] h = tt
   all-weaken Q weaker (x ∷ xs) h = (weaker x h.0, all-weaken Q weaker xs h.1)
+
+  -- if all elements have a property, those that pass a test have it and pass the test
+  pub all_passing : (test : X → Bool) (xs : List X) → AllByRecursion P xs → AllByRecursion (λ x. P x × (test x ≡ true)) (filter test xs)
+  all_passing test [] h = tt
+  all_passing test (x ∷ xs) h = elim (test x) as (λ b. test x ≡ b → AllByRecursion (λ y. P y × (test y ≡ true)) (cond b (x ∷ filter test xs) (filter test xs))) [
+    | true ↦ λ is. ((h.0, is), all_passing test xs h.1)
+    | false ↦ λ is. all_passing test xs h.1
+  ] refl
+
+module _ {X : Type 0} where
+  -- if all elements have a property, so has the last
+  pub holds_of_last : (P : X → Type 0) (xs : List X) (x : X) → AllByRecursion P xs → last_of xs ≡ Some x → P x
+  holds_of_last P [] x all is = cc
+  holds_of_last P (y ∷ []) x all is = subst P (same_Some y x is) all.0
+  holds_of_last P (y ∷ z ∷ xs) x all is = holds_of_last P (z ∷ xs) x all.1 is
 
 module _ {X Y : Type 0} (P : Y → Type 0) (f : X → Y) where
   pub all-map : (xs : List X) → AllByRecursion (λ x. P (f x)) xs → AllByRecursion P (map f xs)

@@ -1,7 +1,7 @@
--- What is registered stays effective if no range shrinks, no unit moves and no reference changes its counterparties. And what
--- accepted rows name is effective.
-use Rattle.std.proofs.Common.{◌≡◌, ◌≢◌, ℕ, ◌≤◌, List, refl, sym, ap, ◌∙◌, Bool, true, false, cond, Option, Some, None, arith}
-use Rattle.std.specs.Prelude.{not, is_none, is_some, IsTrue}
+-- What is registered stays effective if no range shrinks and no reference changes its counterparties. And what accepted rows name is
+-- effective.
+use Rattle.std.proofs.Common.{◌≡◌, ◌≢◌, ℕ, ◌≤◌, List, refl, sym, ap, ◌∙◌, true, false, cond, Some, None, arith}
+use Rattle.std.specs.Prelude.{nat_le, not, is_none, is_some, IsTrue}
 use Rattle.std.specs.Cmp.{Equal-is, eq_by_cmp_equiv}
 use Rattle.std.specs.FinMap.{find, put}
 use Rattle.std.specs.FinMap.Entries.{find-put}
@@ -12,20 +12,18 @@ use Rattle.hh_names.specs.declared.values.Counterparties.{Counterparties}
 use Rattle.hh_names.specs.Accounts.{account_cmp, bytes_cmp, is_same_account}
 use Rattle.hh_names.specs.CounterpartyRule.{are_same_counterparties, is_moved}
 use Rattle.hh_names.proofs.AccountLaws.{account_total, bytes_total, exact_accounts}
-use Rattle.hh_rows.specs.DateRanges.{Range, holds, is_inside}
+use Rattle.hh_rows.specs.DateRanges.{Range, earlier, holds, is_inside}
 use Rattle.hh_rows.specs.declared.keys.ContractKey.{ContractKey}
 use Rattle.hh_rows.specs.declared.keys.ReallocationKey.{ReallocationKey}
 use Rattle.hh_rows.specs.declared.rows.PartyRegistration.{PartyRegistration}
 use Rattle.hh_rows.specs.declared.rows.UnitRegistration.{UnitRegistration}
+use Rattle.hh_registrations.specs.Registrations.{widened}
 use Rattle.hh_rules.specs.Effects.{put_new}
 use Rattle.hh_rules.specs.History.{Registered}
 use Rattle.hh_rules.specs.Refusals.{is_party_off, is_some_that, is_unit_off, whole_standing}
-use Rattle.hh_states.specs.Soundness.{HasCounterparties, IsInsideLead, IsPartyEffective, IsToSubsidiary, IsUnitEffective}
+use Rattle.hh_states.specs.Soundness.{HasCounterparties, IsPartyEffective, IsUnitEffective}
+use Rattle.hh_successions.proofs.RowFacts.{earlier_left}
 use Rattle.hh_state_laws.proofs.PutLaws.{stays-put_new}
-
--- if no value may pass a test, a value that is found doesn't pass it
-pub not_passed : {X : Type 0} (test : X → Bool) (o : Option X) (x : X) → is_some_that test o ≡ false → o ≡ Some x → test x ≡ false
-not_passed test o x none found = sym (ap (is_some_that test) found) ∙ none
 
 -- accounts that aren't the same differ
 pub two_accounts : (a b : Account) → is_same_account a b ≡ false → a ≢ b
@@ -71,11 +69,27 @@ wider_holds a b date inside held =
 abbrev pub KeepsParty : PartyRegistration → PartyRegistration → Type 0
 KeepsParty p q = IsTrue (is_inside p.range q.range)
 
--- a unit keeps at least the dates that it has, and its lead account
+-- a unit keeps at least the dates that it has
 abbrev pub KeepsUnit : UnitRegistration → UnitRegistration → Type 0
-KeepsUnit u v = IsTrue (is_inside u.range v.range) × (v.lead ≡ u.lead)
+KeepsUnit u v = IsTrue (is_inside u.range v.range)
 
--- what is registered stays: no range shrinks, no unit changes its lead account, and no reference changes its counterparties
+-- a unit that is widened to a row that ends no earlier keeps its dates
+pub widened_keeps : (u new : UnitRegistration) → u.range.to ≤ new.range.to → KeepsUnit u (widened (Some u) new)
+widened_keeps u new high = and_from (nat_le (earlier u.range.from new.range.from) u.range.from) (nat_le u.range.to new.range.to)
+    (le-leb (earlier u.range.from new.range.from) u.range.from (earlier_left u.range.from new.range.from)) (le-leb u.range.to new.range.to high)
+
+-- a row of units has a lead party that is registered, and its range lies inside that party's
+pub record IsInsideLead (tables : Registered) (unit : UnitRegistration) : Type 0 where
+  pub lead : PartyRegistration
+  pub registered : find bytes_cmp unit.lead.party tables.parties ≡ Some lead
+  pub inside : IsTrue (is_inside unit.range lead.range)
+
+-- a reallocation's unit and its account's party are effective on its date
+pub record IsOfEffective (tables : Registered) (key : ReallocationKey) : Type 0 where
+  pub unit : IsUnitEffective tables key.unit_period.unit key.unit_period.at.date
+  pub party : IsPartyEffective tables key.account.party key.unit_period.at.date
+
+-- what is registered stays: no range shrinks, and no reference changes its counterparties
 pub record Keeps (old new : Registered) : Type 0 where
   pub parties : (party : List ℕ) (p : PartyRegistration) → find bytes_cmp party old.parties ≡ Some p
       → (q : PartyRegistration) × (find bytes_cmp party new.parties ≡ Some q) × KeepsParty p q
@@ -95,9 +109,9 @@ module _ (old new : Registered) (keeps : Keeps old new) where
   abbrev pub unit_stays : (unit : List ℕ) (date : ℕ) → IsUnitEffective old unit date → IsUnitEffective new unit date
   unit_stays unit date was =
       let now = keeps.units unit was.registration was.registered in
-      record { registration = now.0; registered = now.1; holding = wider_holds was.registration.range now.0.range date now.2.0 was.holding }
+      record { registration = now.0; registered = now.1; holding = wider_holds was.registration.range now.0.range date now.2 was.holding }
 
-  -- a unit stays inside its lead party
+  -- a row of units stays inside its lead party
   pub lead_stays : (u : UnitRegistration) → IsInsideLead old u → IsInsideLead new u
   lead_stays u was =
       let now = keeps.parties u.lead.party was.lead was.registered in
@@ -113,15 +127,12 @@ module _ (old new : Registered) (keeps : Keeps old new) where
     buyer = party_stays was.counterparties.buyer.party key.at.date was.buyer;
   }
 
-  -- a reallocation stays one to a subsidiary
-  pub subsidiary_stays : (key : ReallocationKey) → IsToSubsidiary old key → IsToSubsidiary new key
-  subsidiary_stays key was =
-      let now = keeps.units key.unit_period.unit was.unit.registration was.unit.registered in
-      record {
-        unit = unit_stays key.unit_period.unit key.unit_period.at.date was.unit;
-        party = party_stays key.account.party key.unit_period.at.date was.party;
-        not_lead = λ same. was.not_lead (sym now.2.1 ∙ same);
-      }
+  -- a reallocation's unit and party stay effective
+  pub reallocation_stays : (key : ReallocationKey) → IsOfEffective old key → IsOfEffective new key
+  reallocation_stays key was = record {
+    unit = unit_stays key.unit_period.unit key.unit_period.at.date was.unit;
+    party = party_stays key.account.party key.unit_period.at.date was.party;
+  }
 
 module _ (tables : Registered) where
   -- a party that is known, and registered for the date, is effective
@@ -142,7 +153,7 @@ module _ (tables : Registered) where
         | Some u ↦ λ is known on. record { registration = u; registered = is; holding = not-false (holds u.range date) on }
       ] refl
 
-  -- a unit is inside its lead party if that is known and has its dates
+  -- a row of units is inside its lead party if that is known and has its dates
   pub inside_lead : (u : UnitRegistration) → is_none (find bytes_cmp u.lead.party tables.parties) ≡ false
       → is_some_that (λ (p : PartyRegistration). not (is_inside u.range p.range)) (find bytes_cmp u.lead.party tables.parties) ≡ false → IsInsideLead tables u
   inside_lead u =
@@ -175,4 +186,4 @@ module _ (tables : Registered) where
   -- units stay as they are
   pub same_units : (unit : List ℕ) (u : UnitRegistration) → find bytes_cmp unit tables.units ≡ Some u
       → (v : UnitRegistration) × (find bytes_cmp unit tables.units ≡ Some v) × KeepsUnit u v
-  same_units unit u found = (u, found, (inside_itself u.range, refl))
+  same_units unit u found = (u, found, inside_itself u.range)

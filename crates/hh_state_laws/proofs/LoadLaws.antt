@@ -14,13 +14,14 @@ use Rattle.hh_names.specs.declared.values.Counterparties.{Counterparties}
 use Rattle.hh_names.specs.Accounts.{bytes_cmp}
 use Rattle.hh_rows.specs.declared.rows.Row.{Row}
 use Rattle.hh_rows.specs.declared.rows.Row.TheVariants as row
+use Rattle.hh_rows.specs.declared.rows.UnitRegistration.{UnitRegistration}
 use Rattle.hh_rules.specs.Effects.{fixes_reference, put_new, with_row}
 use Rattle.hh_rules.specs.Entries.{reference_entry}
 use Rattle.hh_rules.specs.FileRows.{fixed_by, fixed_references, timely_rows}
-use Rattle.hh_rules.specs.History.{History, Leads, Registered, leads_with_row, registered_in}
+use Rattle.hh_rules.specs.History.{History, Leads, Registered, leads_with_row, registered_in, units_with_row}
 use Rattle.hh_rules.specs.Lateness.{Accepted, Timetable, accepted_at, is_in_time}
 use Rattle.hh_rules.proofs.HistoryLaws.{looks_back}
-use Rattle.hh_states.specs.Changes.{leads_through, put_row, put_rows}
+use Rattle.hh_states.specs.Changes.{leads_through, put_row, put_rows, units_through}
 
 -- what is registered and in force after some rows, one after another
 abbrev with_rows : Timetable → History → Registered → Registered
@@ -50,22 +51,27 @@ late_row timetable moment (row.Price r) tables late = absurd (false_is_not_true 
 late_row timetable moment (row.Contract r) tables late = refl
 late_row timetable moment (row.Reallocation r) tables late = refl
 
--- the tables after rows in time, with the references and the registrations of units taken apart
-apart : (timetable : Timetable) (rows : History) (tables : Registered) (known : Table (List ℕ) Counterparties) (leads : Leads) →
-    with_rows timetable rows (record tables { references = known; leads = leads })
-    ≡ record (put_rows (timely_rows timetable rows) tables) { references = references_after rows known; leads = leads_through (timely_rows timetable rows) leads }
-apart timetable [] tables known leads = refl
-apart timetable (a ∷ rows) tables known leads =
+-- the tables after rows in time, with the references and what is registered of units taken apart
+apart : (timetable : Timetable) (rows : History) (tables : Registered) (known : Table (List ℕ) Counterparties) (units : Table (List ℕ) UnitRegistration) (leads : Leads) →
+    with_rows timetable rows (record tables { references = known; units = units; leads = leads })
+    ≡ record (put_rows (timely_rows timetable rows) tables) {
+      references = references_after rows known;
+      units = units_through (timely_rows timetable rows) units;
+      leads = leads_through (timely_rows timetable rows) leads;
+    }
+apart timetable [] tables known units leads = refl
+apart timetable (a ∷ rows) tables known units leads =
     let rest : History = filter (is_in_time timetable) rows in
     elim (is_in_time timetable a) as (λ t. is_in_time timetable a ≡ t →
-    with_rows timetable rows (with_row t a.row (record tables { references = known; leads = leads }))
+    with_rows timetable rows (with_row t a.row (record tables { references = known; units = units; leads = leads }))
     ≡ record (put_rows (map (λ (b : Accepted). b.row) (cond t (a ∷ rest) rest)) tables) {
       references = references_after rows (put_new bytes_cmp (reference_entry a.row) known);
+      units = units_through (map (λ (b : Accepted). b.row) (cond t (a ∷ rest) rest)) units;
       leads = leads_through (map (λ (b : Accepted). b.row) (cond t (a ∷ rest) rest)) leads;
     }) [
-      | true ↦ λ in_time. apart timetable rows (put_row a.row tables) (put_new bytes_cmp (reference_entry a.row) known) (leads_with_row a.row leads)
-      | false ↦ λ late. ap (with_rows timetable rows) (late_row timetable a.moment a.row (record tables { references = known; leads = leads }) late)
-          ∙ apart timetable rows tables (put_new bytes_cmp (reference_entry a.row) known) leads
+      | true ↦ λ in_time. apart timetable rows (put_row a.row tables) (put_new bytes_cmp (reference_entry a.row) known) (units_with_row a.row units) (leads_with_row a.row leads)
+      | false ↦ λ late. ap (with_rows timetable rows) (late_row timetable a.moment a.row (record tables { references = known; units = units; leads = leads }) late)
+          ∙ apart timetable rows tables (put_new bytes_cmp (reference_entry a.row) known) units leads
     ] refl
 
 -- putting the reference that a row fixes changes the references as the row does
@@ -99,18 +105,23 @@ fixed_references-put timetable history (a ∷ rows) =
     ∙ ap (references_after rows) after
 
 -- What is registered and in force after rows comes from the rows in time and the references that the rows fix. No row of units is
--- late, so the rows in time make all that becomes of the registrations of units.
+-- late, so the rows in time make all that becomes of units.
 pub load_register : (timetable : Timetable) (history rows : History) →
     registered_in timetable (history ++ rows)
     ≡ record (put_rows (timely_rows timetable rows) (registered_in timetable history)) {
       references = put_all bytes_cmp (fixed_references timetable history rows) (registered_in timetable history).references;
+      units = units_through (timely_rows timetable rows) (registered_in timetable history).units;
       leads = leads_through (timely_rows timetable rows) (registered_in timetable history).leads;
     }
 load_register timetable history rows =
     let tables : Registered = registered_in timetable history in
     registered_in-append timetable rows history
-    ∙ apart timetable rows tables tables.references tables.leads
-    ∙ ap (λ references. record (put_rows (timely_rows timetable rows) tables) { references = references; leads = leads_through (timely_rows timetable rows) tables.leads })
+    ∙ apart timetable rows tables tables.references tables.units tables.leads
+    ∙ ap (λ references. record (put_rows (timely_rows timetable rows) tables) {
+      references = references;
+      units = units_through (timely_rows timetable rows) tables.units;
+      leads = leads_through (timely_rows timetable rows) tables.leads;
+    })
     (sym (fixed_references-put timetable history rows))
 
 -- one more entry with a new key is put into the table

@@ -1,7 +1,7 @@
 -- If what is registered and in force is consistent, each Settlement Period may be settled from it. So this holds in each state that
 -- the machine reaches.
 use Rattle.std.proofs.Common.{◌≡◌, ◌≢◌, ℕ, zero, suc, ◌*◌, ◌≤◌, ◌<◌, List, [], ◌∷◌, ◌++◌, length, map, refl, sym, ap, subst, ◌∙◌, Bool, true, false, cond, Option, Some, None, Ordering, arith}
-use Rattle.std.specs.Prelude.{All, AllPairs, Contains, T, filter, filter_map, is_some, option_map, ℤ}
+use Rattle.std.specs.Prelude.{All, AllPairs, Contains, T, filter, filter_map, is_some, option_map, unwrap_or, ℤ}
 use Rattle.std.specs.Cmp.{IsTotalOrder, Equal-is, eq_by_cmp_equiv, tied_itself}
 use Rattle.std.specs.FinMap.{find, is_sorted}
 use Rattle.std.specs.FinMap.Entries.{below_all}
@@ -35,6 +35,7 @@ use Rattle.hh_rows.specs.declared.rows.UnitRegistration.{UnitRegistration}
 use Rattle.hh_rows.specs.declared.settlement_period.SettlementPeriod.{SettlementPeriod}
 use Rattle.hh_rows.proofs.KeyLaws.{contract_key_total, exact_settlement_periods, exact_unit_periods, reallocation_key_total}
 use Rattle.hh_rules.specs.History.{Registered}
+use Rattle.hh_rules.specs.Leads.{lead_on}
 use Rattle.hh_rules.specs.Refusals.{most_parties}
 use Rattle.hh_rules.specs.RegisterView.{reallocations_at}
 use Rattle.hh_calc.specs.declared.data.Subsidiary.{Subsidiary}
@@ -46,19 +47,10 @@ use Rattle.hh_states.specs.Readiness.{AreTermsConsistent, PeriodsReady}
 use Rattle.hh_states.specs.Soundness.{AreConsistent, IsPartyEffective}
 use Rattle.hh_states.specs.Steps.{registered_at}
 use Rattle.hh_states.specs.Sums.{CreditsEachOnce}
-use Rattle.hh_state_laws.proofs.ApartLaws.{NoneAlike, all-map, all-weaken, distinct-filter, have_one_key, sorted_distinct}
+use Rattle.hh_state_laws.proofs.ApartLaws.{NoneAlike, all-map, all-weaken, all_passing, distinct-filter, have_one_key, sorted_distinct}
 use Rattle.hh_state_laws.proofs.ConsistentLaws.{reached_consistent}
-use Rattle.hh_state_laws.proofs.EffectiveLaws.{wider_holds}
 
 module _ {X : Type 0} (P : X → Type 0) where
-  -- if all elements have a property, those that pass a test have it and pass the test
-  all_passing : (test : X → Bool) (xs : List X) → AllByRecursion P xs → AllByRecursion (λ x. P x × (test x ≡ true)) (filter test xs)
-  all_passing test [] h = tt
-  all_passing test (x ∷ xs) h = elim (test x) as (λ b. test x ≡ b → AllByRecursion (λ y. P y × (test y ≡ true)) (cond b (x ∷ filter test xs) (filter test xs))) [
-    | true ↦ λ is. ((h.0, is), all_passing test xs h.1)
-    | false ↦ λ is. all_passing test xs h.1
-  ] refl
-
   -- if all elements have two properties, all have both together
   pub all_both : (Q : X → Type 0) (xs : List X) → AllByRecursion P xs → AllByRecursion Q xs → AllByRecursion (λ x. P x × Q x) xs
   all_both Q [] h k = tt
@@ -129,7 +121,7 @@ module _ {X Y : Type 0} (f : X → Y) where
 
 module _ {K V : Type 0} {R : K → K → Ordering} (o : IsTotalOrder R) where
   -- if no key occurs twice, the key of each entry finds the entry's own value
-  each_found : (es : List (K × V)) → NoneAlike (have_one_key R) es → AllByRecursion (λ e. find R e.0 es ≡ Some e.1) es
+  pub each_found : (es : List (K × V)) → NoneAlike (have_one_key R) es → AllByRecursion (λ e. find R e.0 es ≡ Some e.1) es
   each_found [] apart = tt
   each_found (e ∷ es) apart = (
     ap (λ b. cond b (Some e.1) (find R e.0 es)) ((eq_by_cmp_equiv o).refl e.0),
@@ -261,11 +253,15 @@ module _ (tables : Registered) (consistent : AreConsistent tables) (at : Settlem
     abbrev here : UnitPeriod
     here = record { unit = e.0; at = at }
 
-    -- its lead account is among the accounts
-    lead_there : Contains accounts e.1.lead
+    -- the account that leads it on the date
+    abbrev lead_here : Account
+    lead_here = lead_on tables e.0 e.1 at.date
+
+    -- is among the accounts
+    lead_there : Contains accounts lead_here
     lead_there =
-        let inside = consistent.leads e.0 e.1 of_date.0 in
-        effective_there e.1.lead (record { registration = inside.lead; registered = inside.registered; holding = wider_holds e.1.range inside.lead.range at.date inside.inside of_date.1 })
+        let led = consistent.leads e.0 at.date (record { registration = e.1; registered = of_date.0; holding = of_date.1 }) in
+        subst (Contains accounts) (sym (ap (λ o. unwrap_or o e.1.lead) led.leads)) (effective_there led.lead led.party)
 
     -- a reallocation is in force, and it is of the unit in the Settlement Period
     abbrev IsInForce : ReallocationKey × Reallocation → Type 0
@@ -298,20 +294,20 @@ module _ (tables : Registered) (consistent : AreConsistent tables) (at : Settlem
         (subst (λ (k : UnitPeriod). IsPartyEffective tables f.0.account.party k.at.date) (its_own f in_force) (consistent.reallocations f.0 (ap is_some in_force.0)).party)
 
     -- and isn't the lead account
-    subsidiary_not_lead : (f : ReallocationKey × Reallocation) → IsInForce f → f.0.account ≢ e.1.lead
+    subsidiary_not_lead : (f : ReallocationKey × Reallocation) → IsInForce f → f.0.account ≢ lead_here
     subsidiary_not_lead f in_force one =
         let to_one = consistent.reallocations f.0 (ap is_some in_force.0) in
         let registered : to_one.unit.registration ≡ e.1 =
         one_value to_one.unit.registration e.1 (sym to_one.unit.registered ∙ ap (λ (k : UnitPeriod). find bytes_cmp k.unit tables.units) (its_own f in_force) ∙ of_date.0) in
-        to_one.not_lead (ap (λ (u : UnitRegistration). u.lead) registered ∙ sym one)
+        to_one.not_lead ((λ i. lead_on tables (its_own f in_force i).unit (registered i) (its_own f in_force i).at.date) ∙ sym one)
 
     -- the accounts of all subsidiaries are among the accounts
     all_there : AllByRecursion (λ s. Contains accounts s.account) (subsidiaries_of tables here)
     all_there = each_subsidiary (Contains accounts) subsidiary_there
 
     -- none is the lead account
-    none_lead : AllByRecursion (λ s. s.account ≢ e.1.lead) (subsidiaries_of tables here)
-    none_lead = each_subsidiary (λ a. a ≢ e.1.lead) subsidiary_not_lead
+    none_lead : AllByRecursion (λ s. s.account ≢ lead_here) (subsidiaries_of tables here)
+    none_lead = each_subsidiary (λ a. a ≢ lead_here) subsidiary_not_lead
 
     -- and they differ
     subsidiaries_differ : Differ (λ s t. s.account ≢ t.account) (subsidiaries_of tables here)
@@ -329,7 +325,7 @@ module _ (tables : Registered) (consistent : AreConsistent tables) (at : Settlem
       unit_few : HasFewSubsidiaries (unit_with tables at e reading)
       unit_few =
           let less_than_all : length (subsidiaries_of tables here) < length accounts =
-          fewer (λ (s : Subsidiary). s.account) (subsidiaries_of tables here) accounts e.1.lead lead_there subsidiaries_differ all_there none_lead in
+          fewer (λ (s : Subsidiary). s.account) (subsidiaries_of tables here) accounts lead_here lead_there subsidiaries_differ all_there none_lead in
           let few : length accounts ≤ 2 * most_parties = few_accounts in
           omega arith
 
@@ -337,7 +333,7 @@ module _ (tables : Registered) (consistent : AreConsistent tables) (at : Settlem
       unit_credits_once : CreditsEachOnce (unit_with tables at e reading)
       unit_credits_once = (
         pairs_differ (λ s t. s.account ≢ t.account) (subsidiaries_of tables here) subsidiaries_differ,
-        All-from_recursion (λ s. s.account ≢ e.1.lead) (subsidiaries_of tables here) none_lead,
+        All-from_recursion (λ s. s.account ≢ lead_here) (subsidiaries_of tables here) none_lead,
       )
 
   -- the reading of a unit in the Settlement Period, if there is one

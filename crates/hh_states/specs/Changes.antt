@@ -1,14 +1,15 @@
 -- What a load and a run write into the tables of an office, and the tables after that.
 use Rattle.std.specs.Prelude.{◌≡◌, ℕ, ℤ, List, [], ◌∷◌, true}
 use Rattle.std.specs.FinMap.{put}
-use Rattle.hh_rules.specs.Tables.{put_all}
+use Rattle.hh_rules.specs.Tables.{Table, put_all}
 use Rattle.hh_rules.specs.Days.{Midnights}
 use Rattle.hh_rules.specs.values.Counterparties.{Counterparties}
 use Rattle.hh_rules.specs.Accounts.{bytes_cmp}
 use Rattle.hh_rules.specs.rows.Row.{Row}
+use Rattle.hh_rules.specs.rows.UnitRegistration.{UnitRegistration}
 use Rattle.hh_rules.specs.Effects.{with_row}
 use Rattle.hh_rules.specs.FileRows.{fixed_references, timely_rows}
-use Rattle.hh_rules.specs.History.{Registered, leads_with_row}
+use Rattle.hh_rules.specs.History.{Registered, leads_with_row, units_with_row}
 use Rattle.hh_rules.specs.Registrations.{Leads}
 use Rattle.hh_calc.specs.declared.result.AccountRow.{AccountRow}
 use Rattle.hh_runs.specs.declared.summary.Summary.{Summary}
@@ -37,14 +38,19 @@ pub record RunChangeView : Type 0 where
   pub credits : List (CreditKey × ℤ)
   pub postings : List (PostingKey × ℤ)
 
--- what is registered and in force after one more row that is not late; references and registrations of units are put apart
+-- what is registered and in force after one more row that is not late; references and what is registered of units are put apart
 abbrev pub put_row : Row → Registered → Registered
-put_row r tables = record (with_row true r tables) { references = tables.references; leads = tables.leads }
+put_row r tables = record (with_row true r tables) { references = tables.references; units = tables.units; leads = tables.leads }
 
 -- what is registered and in force after more rows that are not late, one after another
 abbrev pub put_rows : List Row → Registered → Registered
 put_rows [] tables = tables
 put_rows (r ∷ rows) tables = put_rows rows (put_row r tables)
+
+-- what is registered of each unit after more rows, one after another
+abbrev pub units_through : List Row → Table (List ℕ) UnitRegistration → Table (List ℕ) UnitRegistration
+units_through [] units = units
+units_through (r ∷ rows) units = units_through rows (units_with_row r units)
 
 -- the registrations of units after more rows, one after another
 abbrev pub leads_through : List Row → Leads → Leads
@@ -55,6 +61,7 @@ leads_through (r ∷ rows) leads = leads_through rows (leads_with_row r leads)
 abbrev pub registered_with : LoadChangeView → Registered → Registered
 registered_with w tables = record (put_rows w.rows tables) {
   references = put_all bytes_cmp w.references tables.references;
+  units = units_through w.rows tables.units;
   leads = leads_through w.rows tables.leads;
 }
 

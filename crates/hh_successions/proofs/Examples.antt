@@ -12,7 +12,7 @@ use Rattle.hh_registrations.specs.Registrations.{Lead, RegistrationsView, regist
 use Rattle.hh_rules.specs.History.{History}
 use Rattle.hh_rules.specs.Lateness.{Timetable, Accepted, accepted_at}
 use Rattle.hh_successions.specs.RegistrationHistory.{refusal_by, registrations_in}
-use Rattle.hh_successions.specs.SuccessionRefusals.{refusals_by_leads}
+use Rattle.hh_successions.specs.RowRules.{office_rule}
 
 -- 2024-07-01 is day 19905 and begins at 1719788400; each day here has 48 periods
 abbrev summer : Timetable
@@ -70,7 +70,7 @@ abbrev with_newco : History
 with_newco = before ++ party (codes "NEWCO") (codes "newco0001") ∷ []
 
 abbrev refused : History → Accepted → Option Refusal
-refused history a = refusal_by refusals_by_leads summer history a
+refused history a = refusal_by office_rule summer history a
 
 -- the row ends before the unit does
 ends_early : refused with_newco (unit (codes "S1") newco_c false july year_end) ≡ Some refusal.ShrinksRange

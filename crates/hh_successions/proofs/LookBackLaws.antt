@@ -27,25 +27,21 @@ use Rattle.hh_registrations.specs.Registrations.{Lead, Leads, RegistrationsView,
 use Rattle.hh_registrations.proofs.KeyLaws.{at}
 use Rattle.hh_registrations.proofs.UpToLaws.{one_unit}
 use Rattle.hh_rules.specs.Entries.{unit_entry}
-use Rattle.hh_rules.specs.History.{History, Registered, entries_of}
+use Rattle.hh_rules.specs.History.{History, Registered, entries_of, registered_in}
 use Rattle.hh_rules.specs.Lateness.{Timetable, Accepted, timing_of}
-use Rattle.hh_rules.specs.Refusals.{is_some_that}
-use Rattle.hh_rules.proofs.HistoryLaws.{entries_of-append}
-use Rattle.hh_successions.specs.RegistrationHistory.{IsAcceptedBy, LeadsLookBack, LeadsStay, RegistersRowByRow, UnitsLookBack, is_row_on, no_rows, one_more, refusal_by, registered_with_units, registrations_from, registrations_in, registrations_with}
-use Rattle.hh_successions.specs.SuccessionRefusals.{is_shrunk, is_unit_moved_by_leads, last_lead, refusals_by_leads, unit_refusals_by_leads}
+use Rattle.hh_rules.specs.Leads.{registered_units}
+use Rattle.hh_rules.specs.Refusals.{is_shrunk, is_some_that, is_unit_moved, last_lead, unit_refusals, whole_standing}
+use Rattle.hh_rules.proofs.HistoryLaws.{entries_of-append, leads-append, units-append}
+use Rattle.hh_successions.specs.RegistrationHistory.{IsAcceptedBy, LeadsLookBack, LeadsStay, RegistersRowByRow, UnitsLookBack, is_row_on, no_rows, one_more, refusal_by, registrations_in, registrations_with}
+use Rattle.hh_successions.specs.RowRules.{office_rule}
 use Rattle.hh_successions.proofs.LeadLaws.{AreOf, IsKept, SameElsewhere, UnitRows, first_elsewhere, first_is, first_kept, last_holds, last_known, others_kept, row_on, row_on-append, succeeded_elsewhere, succeeded_is, succession_kept, widened_elsewhere, widened_is, widening_kept, with_registration}
 use Rattle.hh_successions.proofs.RowFacts.{holds_from, last_at, succeeds, widens}
 
 -- ---- one more row
 
-registrations_from-append : (registered : RegistrationsView) (history : History) (a : Accepted)
-    → registrations_from registered (history ++ a ∷ []) ≡ registrations_with a.row (registrations_from registered history)
-registrations_from-append registered [] a = refl
-registrations_from-append registered (x ∷ history) a = registrations_from-append (registrations_with x.row registered) history a
-
 -- to accept a row and look back over the history is to change what is registered of units by the row
 pub row_by_row : RegistersRowByRow
-row_by_row history a = registrations_from-append no_registrations history a
+row_by_row history a = λ i. record { units = units-append [] history a i; leads = leads-append [] history a i }
 
 -- ---- what accepted rows keep
 
@@ -70,16 +66,19 @@ pub record AreKept (rows : UnitRows) (registered : RegistrationsView) : Type 0 w
   pub kept : (unit : List ℕ) → IsKept rows registered.leads unit (find bytes_cmp unit registered.units)
 
 -- a row of units
-module _ (tables : Registered) (registered : RegistrationsView) (same : tables.units ≡ registered.units) (rows : UnitRows) (was : AreKept rows registered) (r : UnitRow)
-    (accepted : first_met (unit_refusals_by_leads tables registered.leads r) ≡ None) where
+module _ (tables : Registered) (rows : UnitRows) (was : AreKept rows (registered_units tables)) (r : UnitRow)
+    (accepted : first_met (unit_refusals (whole_standing tables) r) ≡ None) where
+  abbrev registered : RegistrationsView
+  registered = registered_units tables
+
   abbrev new : UnitRegistration
   new = r.registration
 
   abbrev leads_then : Leads
   leads_then = with_registration r.unit new registered.leads
 
-  pub unmet : NoneMet (unit_refusals_by_leads tables registered.leads r)
-  unmet = none_met (unit_refusals_by_leads tables registered.leads r) accepted
+  pub unmet : NoneMet (unit_refusals (whole_standing tables) r)
+  unmet = none_met (unit_refusals (whole_standing tables) r) accepted
 
   abbrev rows_then : UnitRows
   rows_then = rows ++ (r.unit, new) ∷ []
@@ -95,19 +94,16 @@ module _ (tables : Registered) (registered : RegistrationsView) (same : tables.u
 
   -- of a known unit
   module _ (known : UnitRegistration) (is : find bytes_cmp r.unit registered.units ≡ Some known) (before : IsKept rows registered.leads r.unit (Some known)) where
-    is_in : find bytes_cmp r.unit tables.units ≡ Some known
-    is_in = ap (find bytes_cmp r.unit) same ∙ is
-
     pub last_is_at : last_lead registered.leads r.unit known ≡ last_at r.unit before.0.start known
     last_is_at = ap (λ (o : Option Lead). unwrap_or o (lead_of r.unit known)) (last_known rows registered.leads was.rising r.unit known new before)
 
     pub in_range : is_shrunk known (last_at r.unit before.0.start known) new ≡ false
     in_range = subst (λ last. is_shrunk known last new ≡ false) last_is_at
-        (not_passed (λ (u : UnitRegistration). is_shrunk u (last_lead registered.leads r.unit u) new) (find bytes_cmp r.unit tables.units) known unmet.1.1.0 is_in)
+        (not_passed (λ (u : UnitRegistration). is_shrunk u (last_lead registered.leads r.unit u) new) (find bytes_cmp r.unit tables.units) known unmet.1.1.0 is)
 
-    pub in_place : is_unit_moved_by_leads known (last_at r.unit before.0.start known) new ≡ false
-    in_place = subst (λ last. is_unit_moved_by_leads known last new ≡ false) last_is_at
-        (not_passed (λ (u : UnitRegistration). is_unit_moved_by_leads u (last_lead registered.leads r.unit u) new) (find bytes_cmp r.unit tables.units) known unmet.1.1.1.0 is_in)
+    pub in_place : is_unit_moved known (last_at r.unit before.0.start known) new ≡ false
+    in_place = subst (λ last. is_unit_moved known last new ≡ false) last_is_at
+        (not_passed (λ (u : UnitRegistration). is_unit_moved u (last_lead registered.leads r.unit u) new) (find bytes_cmp r.unit tables.units) known unmet.1.1.1.0 is)
 
     further_step : Stepped (Some known)
     further_step = elim (is_same_account known.lead new.lead) as (λ b. is_same_account known.lead new.lead ≡ b → Stepped (Some known)) [
@@ -155,22 +151,22 @@ AreKeptIn history = AreKept (entries_of unit_entry history) (registrations_in hi
 no_unit : (history : History) → AreKeptIn history → AreKept (entries_of unit_entry history ++ []) (registrations_in history)
 no_unit history was = subst (λ rows. AreKept rows (registrations_in history)) (sym (append-nil (entries_of unit_entry history))) was
 
-row_kept : (timetable : Timetable) (history : History) (a : Accepted) → AreKeptIn history → refusal_by refusals_by_leads timetable history a ≡ None
+row_kept : (timetable : Timetable) (history : History) (a : Accepted) → AreKeptIn history → refusal_by office_rule timetable history a ≡ None
     → AreKept (entries_of unit_entry history ++ option_to_list (unit_entry a.row)) (registrations_with a.row (registrations_in history))
 row_kept timetable history a was accepted =
-    elim a.row as (λ x. first_met (refusals_by_leads (registered_with_units timetable history) (registrations_in history).leads (timing_of timetable a) x) ≡ None
+    elim a.row as (λ x. first_met (office_rule (registered_in timetable history) (timing_of timetable a) x) ≡ None
     → AreKept (entries_of unit_entry history ++ option_to_list (unit_entry x)) (registrations_with x (registrations_in history))) [
-      | row.Unit r ↦ λ e. unit_row_kept (registered_with_units timetable history) (registrations_in history) refl (entries_of unit_entry history) was r e
+      | row.Unit r ↦ λ e. unit_row_kept (registered_in timetable history) (entries_of unit_entry history) was r e
       | _ ↦ λ e. no_unit history was
     ] accepted
 
-pub one_more_kept : (timetable : Timetable) (history : History) (a : Accepted) → AreKeptIn history → refusal_by refusals_by_leads timetable history a ≡ None → AreKeptIn (history ++ a ∷ [])
+pub one_more_kept : (timetable : Timetable) (history : History) (a : Accepted) → AreKeptIn history → refusal_by office_rule timetable history a ≡ None → AreKeptIn (history ++ a ∷ [])
 one_more_kept timetable history a was accepted =
     subst (λ rows. AreKept rows (registrations_in (history ++ a ∷ []))) (sym (entries_of-append unit_entry history a))
     (subst (AreKept (entries_of unit_entry history ++ option_to_list (unit_entry a.row))) (sym (row_by_row history a)) (row_kept timetable history a was accepted))
 
 -- so after each history of accepted rows
-pub accepted_kept : (timetable : Timetable) (history : History) → IsAcceptedBy refusals_by_leads timetable history → AreKeptIn history
+pub accepted_kept : (timetable : Timetable) (history : History) → IsAcceptedBy office_rule timetable history → AreKeptIn history
 accepted_kept timetable history no_rows = record { rising = tt; kept = λ unit. (λ from. refl, λ date. refl) }
 accepted_kept timetable _ (one_more history a before accepted) = one_more_kept timetable history a (accepted_kept timetable history before) accepted
 
@@ -244,7 +240,7 @@ led_as_kept leads rows rising unit date (Some u) kept =
     ] refl
 
 -- The lead account of a unit on a date is that of its last row that holds the date. There is none if no row of it holds the date.
-pub leads_look_back : (timetable : Timetable) → LeadsLookBack refusals_by_leads timetable
+pub leads_look_back : (timetable : Timetable) → LeadsLookBack office_rule timetable
 leads_look_back timetable history accepted unit date =
     let kept = accepted_kept timetable history accepted in
     led_as_kept (registrations_in history).leads (entries_of unit_entry history) kept.rising unit date (find bytes_cmp unit (registrations_in history).units) (kept.kept unit)
@@ -263,7 +259,7 @@ held_as_kept leads rows unit date (Some u) kept =
     some_mapped None lead is = cc
     some_mapped (Some e) lead is = refl
 
-pub units_look_back : (timetable : Timetable) → UnitsLookBack refusals_by_leads timetable
+pub units_look_back : (timetable : Timetable) → UnitsLookBack office_rule timetable
 units_look_back timetable history accepted unit date =
     held_as_kept (registrations_in history).leads (entries_of unit_entry history) unit date (find bytes_cmp unit (registrations_in history).units) ((accepted_kept timetable history accepted).kept unit)
 
@@ -277,7 +273,7 @@ same_last (row.Contract r) rows unit date off = ap (λ xs. row_on xs unit date) 
 same_last (row.Reallocation r) rows unit date off = ap (λ xs. row_on xs unit date) (append-nil rows)
 
 -- so it leaves who leads a unit on the date
-pub leads_stay : (timetable : Timetable) → LeadsStay refusals_by_leads timetable
+pub leads_stay : (timetable : Timetable) → LeadsStay office_rule timetable
 leads_stay timetable history a before accepted unit date off =
     leads_look_back timetable (history ++ a ∷ []) (one_more history a before accepted) unit date
     ∙ ap (option_map (λ e. e.1.lead))

@@ -19,12 +19,13 @@ use Rattle.hh_rows.specs.declared.rows.UnitRegistration.{UnitRegistration}
 use Rattle.hh_rows.specs.declared.rows.UnitRow.{UnitRow}
 use Rattle.hh_registrations.specs.Registrations.{RegistrationsView, widened, with_unit_row}
 use Rattle.hh_rules.specs.Entries.{unit_entry}
-use Rattle.hh_rules.specs.History.{History, Registered, entries_of}
+use Rattle.hh_rules.specs.History.{History, Registered, entries_of, registered_in}
 use Rattle.hh_rules.specs.Lateness.{Timetable, Accepted, timing_of}
-use Rattle.hh_rules.specs.Refusals.{is_same_mark}
+use Rattle.hh_rules.specs.Leads.{registered_units}
+use Rattle.hh_rules.specs.Refusals.{is_same_mark, is_unit_moved, last_lead, unit_refusals, whole_standing}
 use Rattle.hh_rules.proofs.HistoryLaws.{entries_of-append}
-use Rattle.hh_successions.specs.RegistrationHistory.{IsAcceptedBy, MarksAlike, MarksStay, no_rows, one_more, refusal_by, registered_with_units, registrations_in, registrations_with}
-use Rattle.hh_successions.specs.SuccessionRefusals.{is_unit_moved_by_leads, last_lead, refusals_by_leads, unit_refusals_by_leads}
+use Rattle.hh_successions.specs.RegistrationHistory.{IsAcceptedBy, MarksAlike, MarksStay, no_rows, one_more, refusal_by, registrations_in, registrations_with}
+use Rattle.hh_successions.specs.RowRules.{office_rule}
 use Rattle.hh_successions.proofs.LeadLaws.{UnitRows}
 use Rattle.hh_successions.proofs.LookBackLaws.{NoneMet, none_met, not_passed, row_by_row}
 
@@ -45,21 +46,24 @@ one_mark true b same = same
 one_mark false true same = cc
 one_mark false false same = refl
 
-module _ (tables : Registered) (registered : RegistrationsView) (same : tables.units ≡ registered.units) (rows : UnitRows) (was : HaveMarks rows registered.units) (r : UnitRow)
-    (accepted : first_met (unit_refusals_by_leads tables registered.leads r) ≡ None) where
+module _ (tables : Registered) (rows : UnitRows) (was : HaveMarks rows tables.units) (r : UnitRow)
+    (accepted : first_met (unit_refusals (whole_standing tables) r) ≡ None) where
+  abbrev registered : RegistrationsView
+  registered = registered_units tables
+
   abbrev new : UnitRegistration
   new = r.registration
 
   abbrev known : Option UnitRegistration
   known = find bytes_cmp r.unit registered.units
 
-  unmet : NoneMet (unit_refusals_by_leads tables registered.leads r)
-  unmet = none_met (unit_refusals_by_leads tables registered.leads r) accepted
+  unmet : NoneMet (unit_refusals (whole_standing tables) r)
+  unmet = none_met (unit_refusals (whole_standing tables) r) accepted
 
   mark_kept : (u : UnitRegistration) → known ≡ Some u → new.interconnector ≡ u.interconnector
   mark_kept u is =
-      let in_place : is_unit_moved_by_leads u (last_lead registered.leads r.unit u) new ≡ false =
-      not_passed (λ (x : UnitRegistration). is_unit_moved_by_leads x (last_lead registered.leads r.unit x) new) (find bytes_cmp r.unit tables.units) u unmet.1.1.1.0 (ap (find bytes_cmp r.unit) same ∙ is) in
+      let in_place : is_unit_moved u (last_lead registered.leads r.unit u) new ≡ false =
+      not_passed (λ (x : UnitRegistration). is_unit_moved x (last_lead registered.leads r.unit x) new) (find bytes_cmp r.unit tables.units) u unmet.1.1.1.0 is in
       one_mark u.interconnector new.interconnector (not-false (is_same_mark u.interconnector new.interconnector) (or_parts _ _ in_place).0)
 
   own_marks : (o : Option UnitRegistration) → known ≡ o → HaveMark rows r.unit o → HaveMark (rows ++ (r.unit, new) ∷ []) r.unit (Some (widened o new))
@@ -103,16 +107,16 @@ module _ (tables : Registered) (registered : RegistrationsView) (same : tables.u
 abbrev HaveMarksIn : History → Type 0
 HaveMarksIn history = HaveMarks (entries_of unit_entry history) (registrations_in history).units
 
-marks_more : (timetable : Timetable) (history : History) (a : Accepted) → HaveMarksIn history → refusal_by refusals_by_leads timetable history a ≡ None
+marks_more : (timetable : Timetable) (history : History) (a : Accepted) → HaveMarksIn history → refusal_by office_rule timetable history a ≡ None
     → HaveMarks (entries_of unit_entry history ++ option_to_list (unit_entry a.row)) (registrations_with a.row (registrations_in history)).units
 marks_more timetable history a was accepted =
-    elim a.row as (λ x. first_met (refusals_by_leads (registered_with_units timetable history) (registrations_in history).leads (timing_of timetable a) x) ≡ None
+    elim a.row as (λ x. first_met (office_rule (registered_in timetable history) (timing_of timetable a) x) ≡ None
     → HaveMarks (entries_of unit_entry history ++ option_to_list (unit_entry x)) (registrations_with x (registrations_in history)).units) [
-      | row.Unit r ↦ λ e. marks_row (registered_with_units timetable history) (registrations_in history) refl (entries_of unit_entry history) was r e
+      | row.Unit r ↦ λ e. marks_row (registered_in timetable history) (entries_of unit_entry history) was r e
       | _ ↦ λ e. subst (λ rows. HaveMarks rows (registrations_in history).units) (sym (append-nil (entries_of unit_entry history))) was
     ] accepted
 
-have_marks : (timetable : Timetable) (history : History) → IsAcceptedBy refusals_by_leads timetable history → HaveMarksIn history
+have_marks : (timetable : Timetable) (history : History) → IsAcceptedBy office_rule timetable history → HaveMarksIn history
 have_marks timetable history no_rows = λ unit. tt
 have_marks timetable _ (one_more history a before accepted) =
     subst (λ rows. HaveMarks rows (registrations_in (history ++ a ∷ [])).units) (sym (entries_of-append unit_entry history a))
@@ -120,15 +124,15 @@ have_marks timetable _ (one_more history a before accepted) =
     (marks_more timetable history a (have_marks timetable history before) accepted))
 
 -- the mark of a unit is that of each of its rows
-pub marks_alike : (timetable : Timetable) → MarksAlike refusals_by_leads timetable
+pub marks_alike : (timetable : Timetable) → MarksAlike office_rule timetable
 marks_alike timetable history accepted unit u is = subst (HaveMark (entries_of unit_entry history) unit) is (have_marks timetable history accepted unit)
 
 -- no row changes the mark of a known unit
-pub marks_stay : (timetable : Timetable) → MarksStay refusals_by_leads timetable
+pub marks_stay : (timetable : Timetable) → MarksStay office_rule timetable
 marks_stay timetable history a before accepted unit known is =
     ap (λ (registered : RegistrationsView). option_map (λ u. u.interconnector) (find bytes_cmp unit registered.units)) (row_by_row history a)
-    ∙ elim a.row as (λ x. first_met (refusals_by_leads (registered_with_units timetable history) (registrations_in history).leads (timing_of timetable a) x) ≡ None
+    ∙ elim a.row as (λ x. first_met (office_rule (registered_in timetable history) (timing_of timetable a) x) ≡ None
     → option_map (λ u. u.interconnector) (find bytes_cmp unit (registrations_with x (registrations_in history)).units) ≡ Some known.interconnector) [
-      | row.Unit r ↦ λ e. row_leaves_mark (registered_with_units timetable history) (registrations_in history) refl (entries_of unit_entry history) (have_marks timetable history before) r e unit known is
+      | row.Unit r ↦ λ e. row_leaves_mark (registered_in timetable history) (entries_of unit_entry history) (have_marks timetable history before) r e unit known is
       | _ ↦ λ e. ap (option_map (λ u. u.interconnector)) is
     ] accepted

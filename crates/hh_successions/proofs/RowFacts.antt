@@ -9,7 +9,7 @@ use Rattle.hh_names.specs.Accounts.{is_same_account}
 use Rattle.hh_rows.specs.DateRanges.{Range, earlier, holds}
 use Rattle.hh_rows.specs.declared.rows.UnitRegistration.{UnitRegistration}
 use Rattle.hh_registrations.specs.Registrations.{Lead}
-use Rattle.hh_successions.specs.SuccessionRefusals.{is_shrunk, is_unit_moved_by_leads}
+use Rattle.hh_rules.specs.Refusals.{is_shrunk, is_unit_moved}
 
 -- ---- ranges
 
@@ -62,7 +62,7 @@ pub record Succeeds (known : UnitRegistration) (start : ℕ) (new : UnitRegistra
   pub high : known.range.to ≤ new.range.to
 
 module _ (unit : List ℕ) (known : UnitRegistration) (start : ℕ) (new : UnitRegistration)
-    (in_range : is_shrunk known (last_at unit start known) new ≡ false) (in_place : is_unit_moved_by_leads known (last_at unit start known) new ≡ false) where
+    (in_range : is_shrunk known (last_at unit start known) new ≡ false) (in_place : is_unit_moved known (last_at unit start known) new ≡ false) where
   ends_late : known.range.to ≤ new.range.to
   ends_late = ltb-false new.range.to known.range.to (or_parts (nat_lt new.range.to known.range.to) (is_same_account known.lead new.lead && nat_lt start new.range.from) in_range).0
 

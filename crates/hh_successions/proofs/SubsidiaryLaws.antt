@@ -32,10 +32,11 @@ use Rattle.hh_rules.specs.Effects.{put_in_time}
 use Rattle.hh_rules.specs.Entries.{reallocation_entry, unit_entry}
 use Rattle.hh_rules.specs.History.{History, Registered, entries_of, registered_in}
 use Rattle.hh_rules.specs.Lateness.{Timetable, Accepted, is_in_time, timing_of}
-use Rattle.hh_rules.specs.Refusals.{is_some_that}
+use Rattle.hh_rules.specs.Leads.{registered_units}
+use Rattle.hh_rules.specs.Refusals.{is_some_that, is_subsidiary_put_first, is_to_lead_of, last_lead, reallocation_refusals, unit_refusals, whole_standing}
 use Rattle.hh_rules.proofs.HistoryLaws.{entries_of-append, looks_back}
-use Rattle.hh_successions.specs.RegistrationHistory.{IsAcceptedBy, LedByAnother, no_rows, one_more, refusal_by, registered_with_units, registrations_in}
-use Rattle.hh_successions.specs.SuccessionRefusals.{is_subsidiary_put_first, is_to_lead_of, last_lead, reallocation_refusals_by_leads, refusals_by_leads, unit_refusals_by_leads}
+use Rattle.hh_successions.specs.RegistrationHistory.{IsAcceptedBy, LedByAnother, no_rows, one_more, refusal_by, registrations_in}
+use Rattle.hh_successions.specs.RowRules.{office_rule}
 use Rattle.hh_successions.proofs.LeadLaws.{IsKept, UnitRows, last_holds, row_on, row_on-append}
 use Rattle.hh_successions.proofs.LookBackLaws.{AreKept, NoneMet, accepted_kept, in_place, in_range, last_is_at, leads_look_back, none_met, not_passed}
 use Rattle.hh_successions.proofs.RowFacts.{Widens, holds_parts, widens}
@@ -86,26 +87,29 @@ not_same false b other same = sym same
 
 -- ---- a row of units
 
-module _ (tables : Registered) (registered : RegistrationsView) (same : tables.units ≡ registered.units) (rows : UnitRows) (was : AreKept rows registered) (r : UnitRow)
-    (accepted : first_met (unit_refusals_by_leads tables registered.leads r) ≡ None) where
+module _ (tables : Registered) (rows : UnitRows) (was : AreKept rows (registered_units tables)) (r : UnitRow)
+    (accepted : first_met (unit_refusals (whole_standing tables) r) ≡ None) where
+  abbrev registered : RegistrationsView
+  registered = registered_units tables
+
   abbrev new : UnitRegistration
   new = r.registration
 
-  unmet : NoneMet (unit_refusals_by_leads tables registered.leads r)
-  unmet = none_met (unit_refusals_by_leads tables registered.leads r) accepted
+  unmet : NoneMet (unit_refusals (whole_standing tables) r)
+  unmet = none_met (unit_refusals (whole_standing tables) r) accepted
 
   -- of a known unit
   module _ (known : UnitRegistration) (is : find bytes_cmp r.unit registered.units ≡ Some known) (before : IsKept rows registered.leads r.unit (Some known)) where
     widening : is_same_account known.lead new.lead ≡ true → Widens known before.0.start new
-    widening alike = widens r.unit known before.0.start new (in_range tables registered same rows was r accepted known is before) (in_place tables registered same rows was r accepted known is before) alike
+    widening alike = widens r.unit known before.0.start new (in_range tables rows was r accepted known is before) (in_place tables rows was r accepted known is before) alike
 
     -- 41: no reallocation in force on a date of a succession is to its lead account
     not_put_first : is_same_account known.lead new.lead ≡ false → (key : ReallocationKey) (v : Reallocation) → find reallocation_key_cmp key tables.reallocations ≡ Some v → is_to_lead_of r key ≡ false
     not_put_first other key v found =
         not_any reallocation_key_cmp exact_reallocation_keys (is_to_lead_of r) tables.reallocations key v
         (sym (ap (λ b. not b && list_any (λ e. is_to_lead_of r e.0) tables.reallocations) other)
-        ∙ subst (λ last. is_subsidiary_put_first tables registered.leads r last ≡ false) (last_is_at tables registered same rows was r accepted known is before)
-        (not_passed (λ (u : UnitRegistration). is_subsidiary_put_first tables registered.leads r (last_lead registered.leads r.unit u)) (find bytes_cmp r.unit tables.units) known unmet.1.1.1.1.0 (ap (find bytes_cmp r.unit) same ∙ is)))
+        ∙ subst (λ last. is_subsidiary_put_first (whole_standing tables) r last ≡ false) (last_is_at tables rows was r accepted known is before)
+        (not_passed (λ (u : UnitRegistration). is_subsidiary_put_first (whole_standing tables) r (last_lead registered.leads r.unit u)) (find bytes_cmp r.unit tables.units) known unmet.1.1.1.1.0 is))
         found
 
     -- the row's own account leads the unit on a date that the unit had only if it did, or no reallocation is to it
@@ -162,9 +166,9 @@ module _ (tables : Registered) (registered : RegistrationsView) (same : tables.u
 -- ---- a row of reallocations
 
 -- 33 and 37: the row is of a unit that another account leads on the date
-module _ (timetable : Timetable) (history : History) (a : Accepted) (before : IsAcceptedBy refusals_by_leads timetable history) (r : ReallocationRow) where
+module _ (timetable : Timetable) (history : History) (a : Accepted) (before : IsAcceptedBy office_rule timetable history) (r : ReallocationRow) where
   abbrev tables : Registered
-  tables = registered_with_units timetable history
+  tables = registered_in timetable history
 
   abbrev leads : Leads
   leads = (registrations_in history).leads
@@ -179,7 +183,7 @@ module _ (timetable : Timetable) (history : History) (a : Accepted) (before : Is
   own_kept = (accepted_kept timetable history before).kept unit_on
 
   led_here : (o : Option UnitRegistration) → find bytes_cmp unit_on (registrations_in history).units ≡ o → IsKept (entries_of unit_entry history) leads unit_on o
-      → NoneMet (reallocation_refusals_by_leads tables leads (timing_of timetable a) r) → led_by_another (entries_of unit_entry history) r.key ≡ true
+      → NoneMet (reallocation_refusals (whole_standing tables) (timing_of timetable a) r) → led_by_another (entries_of unit_entry history) r.key ≡ true
   led_here None is kept unmet = absurd (false_is_not_true (sym unmet.1.0 ∙ ap is_none is))
   led_here (Some u) is kept unmet =
       let off : is_some_that (λ (x : UnitRegistration). not (holds x.range date_on)) (find bytes_cmp unit_on (registrations_in history).units) ≡ false = (or_parts _ _ unmet.1.1.0).0 in
@@ -192,7 +196,7 @@ module _ (timetable : Timetable) (history : History) (a : Accepted) (before : Is
             ∙ ap not (not_passed (λ (e : Lead). is_same_account e.1.lead r.key.account) (registration_on leads unit_on date_on) on.lead unmet.1.1.1.1.0 own)
       ] refl
 
-  pub reallocation_row_leaves : first_met (reallocation_refusals_by_leads tables leads (timing_of timetable a) r) ≡ None
+  pub reallocation_row_leaves : first_met (reallocation_refusals (whole_standing tables) (timing_of timetable a) r) ≡ None
       → AreLedByOthers (entries_of unit_entry history) tables.reallocations → (in_time : Bool)
       → AreLedByOthers (entries_of unit_entry history) (put_in_time reallocation_key_cmp in_time (Some (r.key, r.reallocation)) tables.reallocations)
   reallocation_row_leaves accepted others false key v found = others key v found
@@ -202,7 +206,7 @@ module _ (timetable : Timetable) (history : History) (a : Accepted) (before : Is
         | false ↦ λ apart found. others key v found
         | true ↦ λ tied found.
             subst (λ k. led_by_another (entries_of unit_entry history) k ≡ true) (sym (exact_reallocation_keys key r.key ((Equal-is (reallocation_key_cmp key r.key)).0 tied)))
-            (led_here (find bytes_cmp unit_on (registrations_in history).units) refl own_kept (none_met (reallocation_refusals_by_leads tables leads (timing_of timetable a) r) accepted))
+            (led_here (find bytes_cmp unit_on (registrations_in history).units) refl own_kept (none_met (reallocation_refusals (whole_standing tables) (timing_of timetable a) r) accepted))
       ] refl (sym (find-put reallocation_key_cmp reallocation_key_total key r.key r.reallocation tables.reallocations) ∙ found)
 
 -- ---- histories
@@ -210,18 +214,18 @@ module _ (timetable : Timetable) (history : History) (a : Accepted) (before : Is
 abbrev AreLedByOthersIn : Timetable → History → Type 0
 AreLedByOthersIn timetable history = AreLedByOthers (entries_of unit_entry history) (registered_in timetable history).reallocations
 
-row_leaves : (timetable : Timetable) (history : History) (a : Accepted) → IsAcceptedBy refusals_by_leads timetable history → refusal_by refusals_by_leads timetable history a ≡ None → AreLedByOthersIn timetable history
+row_leaves : (timetable : Timetable) (history : History) (a : Accepted) → IsAcceptedBy office_rule timetable history → refusal_by office_rule timetable history a ≡ None → AreLedByOthersIn timetable history
     → AreLedByOthers (entries_of unit_entry history ++ option_to_list (unit_entry a.row)) (put_in_time reallocation_key_cmp (is_in_time timetable a) (reallocation_entry a.row) (registered_in timetable history).reallocations)
 row_leaves timetable history a before accepted others =
-    elim a.row as (λ x. first_met (refusals_by_leads (registered_with_units timetable history) (registrations_in history).leads (timing_of timetable a) x) ≡ None
+    elim a.row as (λ x. first_met (office_rule (registered_in timetable history) (timing_of timetable a) x) ≡ None
     → AreLedByOthers (entries_of unit_entry history ++ option_to_list (unit_entry x)) (put_in_time reallocation_key_cmp (is_in_time timetable a) (reallocation_entry x) (registered_in timetable history).reallocations)) [
-      | row.Unit r ↦ λ e. unit_row_leaves (registered_with_units timetable history) (registrations_in history) refl (entries_of unit_entry history) (accepted_kept timetable history before) r e others
+      | row.Unit r ↦ λ e. unit_row_leaves (registered_in timetable history) (entries_of unit_entry history) (accepted_kept timetable history before) r e others
       | row.Reallocation r ↦ λ e. subst (λ rows. AreLedByOthers rows (put_in_time reallocation_key_cmp (is_in_time timetable a) (Some (r.key, r.reallocation)) (registered_in timetable history).reallocations)) (sym (append-nil (entries_of unit_entry history)))
           (reallocation_row_leaves timetable history a before r e others (is_in_time timetable a))
       | _ ↦ λ e. subst (λ rows. AreLedByOthers rows (registered_in timetable history).reallocations) (sym (append-nil (entries_of unit_entry history))) others
     ] accepted
 
-led_by_others : (timetable : Timetable) (history : History) → IsAcceptedBy refusals_by_leads timetable history → AreLedByOthersIn timetable history
+led_by_others : (timetable : Timetable) (history : History) → IsAcceptedBy office_rule timetable history → AreLedByOthersIn timetable history
 led_by_others timetable history no_rows = λ key v found. cc
 led_by_others timetable _ (one_more history a before accepted) =
     subst (λ rows. AreLedByOthers rows (registered_in timetable (history ++ a ∷ [])).reallocations) (sym (entries_of-append unit_entry history a))
@@ -229,7 +233,7 @@ led_by_others timetable _ (one_more history a before accepted) =
     (row_leaves timetable history a before accepted (led_by_others timetable history before)))
 
 -- each reallocation in force is to another account than the one that leads its unit on the date
-pub led_by_another_account : (timetable : Timetable) → LedByAnother refusals_by_leads timetable
+pub led_by_another_account : (timetable : Timetable) → LedByAnother office_rule timetable
 led_by_another_account timetable history accepted key r found =
     ap (is_some_that (λ lead. not (is_same_account lead key.account))) (leads_look_back timetable history accepted key.unit_period.unit key.unit_period.at.date)
     ∙ led_by_others timetable history accepted key r found

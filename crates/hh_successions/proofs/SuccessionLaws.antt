@@ -17,18 +17,18 @@ use Rattle.hh_rows.specs.declared.rows.UnitRegistration.{UnitRegistration}
 use Rattle.hh_rows.specs.declared.rows.UnitRow.{UnitRow}
 use Rattle.hh_registrations.specs.Registrations.{Lead, RegistrationsView, is_succession, last_registration, registered_lead_on}
 use Rattle.hh_rules.specs.Entries.{unit_entry}
-use Rattle.hh_rules.specs.History.{History, entries_of}
+use Rattle.hh_rules.specs.History.{History, entries_of, registered_in}
 use Rattle.hh_rules.specs.Lateness.{Timetable, Accepted, timing_of}
-use Rattle.hh_rules.specs.Refusals.{is_some_that}
+use Rattle.hh_rules.specs.Refusals.{is_some_that, unit_refusals, whole_standing}
 use Rattle.hh_rules.proofs.HistoryLaws.{entries_of-append}
-use Rattle.hh_successions.specs.RegistrationHistory.{IsAcceptedBy, SuccessionsAloneMoveLeads, is_row_on, is_succession_on, one_more, registered_with_units, registrations_in}
-use Rattle.hh_successions.specs.SuccessionRefusals.{refusals_by_leads, unit_refusals_by_leads}
+use Rattle.hh_successions.specs.RegistrationHistory.{IsAcceptedBy, SuccessionsAloneMoveLeads, is_row_on, is_succession_on, one_more, registrations_in}
+use Rattle.hh_successions.specs.RowRules.{office_rule}
 use Rattle.hh_successions.proofs.LeadLaws.{IsKept, UnitRows, last_known, row_on, row_on-append}
 use Rattle.hh_successions.proofs.LookBackLaws.{AreKept, accepted_kept, in_place, in_range, leads_look_back, leads_stay, not_passed}
 use Rattle.hh_successions.proofs.RowFacts.{last_at, widens}
 use Rattle.hh_successions.proofs.SubsidiaryLaws.{lead_by, widening_keeps}
 
-module _ (timetable : Timetable) (history : History) (a : Accepted) (before : IsAcceptedBy refusals_by_leads timetable history)
+module _ (timetable : Timetable) (history : History) (a : Accepted) (before : IsAcceptedBy office_rule timetable history)
     (unit : List ℕ) (date : ℕ) where
   abbrev rows : UnitRows
   rows = entries_of unit_entry history
@@ -40,7 +40,7 @@ module _ (timetable : Timetable) (history : History) (a : Accepted) (before : Is
   kept_here = accepted_kept timetable history before
 
   -- a row of the unit that holds the date has the lead account of before, unless it is a succession
-  module _ (r : UnitRow) (accepted : first_met (unit_refusals_by_leads (registered_with_units timetable history) registered.leads r) ≡ None)
+  module _ (r : UnitRow) (accepted : first_met (unit_refusals (whole_standing (registered_in timetable history)) r) ≡ None)
       (held_new : holds r.registration.range date ≡ true)
       (none : is_some_that (λ last. is_succession last r.registration) (last_registration registered.leads r.unit) ≡ false) where
     abbrev new : UnitRegistration
@@ -54,8 +54,8 @@ module _ (timetable : Timetable) (history : History) (a : Accepted) (before : Is
         (not_passed (λ (e : Lead). is_succession e new) (last_registration registered.leads r.unit) (last_at r.unit kept.0.start known) none last) in
         let one : known.lead ≡ new.lead = exact_accounts known.lead new.lead ((Equal-is (account_cmp known.lead new.lead)).0 alike) in
         let w = widens r.unit known kept.0.start new
-        (in_range (registered_with_units timetable history) registered refl rows kept_here r accepted known is kept)
-        (in_place (registered_with_units timetable history) registered refl rows kept_here r accepted known is kept) alike in
+        (in_range (registered_in timetable history) rows kept_here r accepted known is kept)
+        (in_place (registered_in timetable history) rows kept_here r accepted known is kept) alike in
         ap Some (sym one) ∙ sym (widening_keeps rows registered.leads r.unit known new kept_here.rising kept w date held held_new)
 
     same_lead : (o : Option UnitRegistration) → find bytes_cmp r.unit registered.units ≡ o → IsKept rows registered.leads r.unit o
@@ -67,7 +67,7 @@ module _ (timetable : Timetable) (history : History) (a : Accepted) (before : Is
           | false ↦ λ off. absurd (false_is_not_true (sym (ap (λ e. is_some (option_map (λ x. x.1.lead) e)) (kept.1.off date off)) ∙ led))
         ] refl
 
-  on_its_date : (x : Row) → first_met (refusals_by_leads (registered_with_units timetable history) registered.leads (timing_of timetable a) x) ≡ None
+  on_its_date : (x : Row) → first_met (office_rule (registered_in timetable history) (timing_of timetable a) x) ≡ None
       → is_row_on x unit date ≡ true → is_succession_on registered x unit date ≡ false → is_some (lead_by rows unit date) ≡ true
       → lead_by (rows ++ option_to_list (unit_entry x)) unit date ≡ lead_by rows unit date
   on_its_date (row.Unit r) accepted on none led =
@@ -84,7 +84,7 @@ module _ (timetable : Timetable) (history : History) (a : Accepted) (before : Is
   on_its_date (row.Contract r) accepted on none led = absurd (false_is_not_true on)
   on_its_date (row.Reallocation r) accepted on none led = absurd (false_is_not_true on)
 
-pub successions_alone_move_leads : (timetable : Timetable) → SuccessionsAloneMoveLeads refusals_by_leads timetable
+pub successions_alone_move_leads : (timetable : Timetable) → SuccessionsAloneMoveLeads office_rule timetable
 successions_alone_move_leads timetable history a before accepted unit date none led =
     let was : registered_lead_on (registrations_in history) unit date ≡ lead_by (entries_of unit_entry history) unit date = leads_look_back timetable history before unit date in
     elim (is_row_on a.row unit date) as (λ b. is_row_on a.row unit date ≡ b

@@ -1,2 +1,2 @@
 pub mod RegistrationHistory
-pub mod SuccessionRefusals
+pub mod RowRules

@@ -15,31 +15,19 @@ use Rattle.hh_rows.specs.declared.keys.ReallocationKey.{ReallocationKey}
 use Rattle.hh_rows.specs.declared.rows.Row.{Row}
 use Rattle.hh_rows.specs.declared.rows.Row.TheVariants as row
 use Rattle.hh_rows.specs.declared.rows.UnitRegistration.{UnitRegistration}
-use Rattle.hh_registrations.specs.Registrations.{RegistrationsView, is_succession, last_registration, no_registrations, registered_lead_on, with_unit_row}
+pub use Rattle.hh_registrations.specs.Registrations.{registrations_with}
+use Rattle.hh_registrations.specs.Registrations.{RegistrationsView, is_succession, last_registration, registered_lead_on}
 use Rattle.hh_rules.specs.Entries.{unit_entry}
-use Rattle.hh_rules.specs.History.{History, Registered, entries_of, registered_in}
+use Rattle.hh_rules.specs.History.{History, entries_of, leads_from, registered_in, units_from}
 use Rattle.hh_rules.specs.Lateness.{Timetable, Accepted, timing_of}
 use Rattle.hh_rules.specs.Refusals.{is_some_that}
-use Rattle.hh_successions.specs.SuccessionRefusals.{RowRule}
+use Rattle.hh_successions.specs.RowRules.{RowRule}
 
 -- ---- what rows make of units, one after the other
 
--- what is registered of units after one more row: only rows of units change it
-abbrev pub registrations_with : Row → RegistrationsView → RegistrationsView
-registrations_with (row.Unit r) registered = with_unit_row r registered
-registrations_with _ registered = registered
-
-abbrev pub registrations_from : RegistrationsView → History → RegistrationsView
-registrations_from registered [] = registered
-registrations_from registered (a ∷ rows) = registrations_from (registrations_with a.row registered) rows
-
 -- what the rows of a history make of units
 abbrev pub registrations_in : History → RegistrationsView
-registrations_in history = registrations_from no_registrations history
-
--- what is registered and in force by a history, with each unit's whole range and latest lead account
-abbrev pub registered_with_units : Timetable → History → Registered
-registered_with_units timetable history = record (registered_in timetable history) { units = (registrations_in history).units }
+registrations_in history = record { units = units_from [] history; leads = leads_from [] history }
 
 -- ---- histories of accepted rows
 
@@ -47,7 +35,7 @@ module _ (rule : RowRule) (timetable : Timetable) where
   -- why a row is refused after a history by a rule, if it is
   abbrev pub refusal_by : History → Accepted → Option Refusal
   refusal_by history a =
-      first_met (rule (registered_with_units timetable history) (registrations_in history).leads (timing_of timetable a) a.row)
+      first_met (rule (registered_in timetable history) (timing_of timetable a) a.row)
 
   -- the rows of a history came one after the other, and the rule refused none
   pub data IsAcceptedBy : History → Type 0 where

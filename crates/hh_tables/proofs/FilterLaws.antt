@@ -1,5 +1,5 @@
--- The rows of a table whose keys pass a test, after one more row.
-use Rattle.std.proofs.Common.{◌≡◌, [], ◌∷◌, Bool, true, false, cond, refl, sym, ap, ◌∙◌, Some, None, Ordering}
+-- The rows of a table whose keys pass a test, after one more row; and elements that pass two tests.
+use Rattle.std.proofs.Common.{◌≡◌, List, [], ◌∷◌, Bool, true, false, cond, refl, sym, ap, ◌∙◌, Some, None, Ordering}
 use Rattle.std.specs.Prelude.{filter, T}
 use Rattle.std.specs.Cmp.{IsTotalOrder, Equal-is}
 use Rattle.std.specs.FinMap.{find, put, is_sorted}
@@ -68,3 +68,18 @@ module _ {K V : Type 0} {R : K → K → Ordering} (o : IsTotalOrder R) (exact :
           → cond (passes q) (cond t (Some v) (find R q es)) None ≡ cond (passes q) (find R q es) None
       without_it h q true same = ap (λ b. cond b (Some v) None) (passes_alike exact passes q k same ∙ h) ∙ sym (ap (λ b. cond b (find R q es) None) (passes_alike exact passes q k same ∙ h))
       without_it h q false apart = refl
+
+-- the elements that pass a test are the same among those that pass a wider test
+pub filter_within : {X : Type 0} (test wider : X → Bool) → ((x : X) → test x ≡ true → wider x ≡ true) → (xs : List X) → filter test (filter wider xs) ≡ filter test xs
+filter_within test wider within [] = refl
+filter_within test wider within (x ∷ xs) =
+    let rest = filter_within test wider within xs in
+    elim (test x) as (λ b. test x ≡ b → filter test (cond (wider x) (x ∷ filter wider xs) (filter wider xs)) ≡ cond b (x ∷ filter test xs) (filter test xs)) [
+      | true ↦ λ passes. ap (λ b. filter test (cond b (x ∷ filter wider xs) (filter wider xs))) (within x passes)
+          ∙ ap (λ b. cond b (x ∷ filter test (filter wider xs)) (filter test (filter wider xs))) passes
+          ∙ ap (λ l. x ∷ l) rest
+      | false ↦ λ fails. elim (wider x) as (λ w. filter test (cond w (x ∷ filter wider xs) (filter wider xs)) ≡ filter test xs) [
+        | true ↦ ap (λ b. cond b (x ∷ filter test (filter wider xs)) (filter test (filter wider xs))) fails ∙ rest
+        | false ↦ rest
+      ]
+    ] refl

@@ -3,12 +3,13 @@
 ghost use Rattle.std.specs.Prelude.{◌≡◌, [], ◌∷◌, IfOk, IsSome, OnOk, OnErr};
 ghost use Rattle.std.specs.BTreeMap.{get};
 ghost use Rattle.std.specs.FinMap.{find, put};
-ghost use Rattle.hh_tables.specs.Ends.{last_up_to};
+ghost use Rattle.hh_tables.specs.Ends.{last_up_to, rows_from};
 ghost use Rattle.hh_tables.specs.Tables.{IsTable, put_all, without};
 ghost use Rattle.hh_tables.specs.steps.Trees.{Inserts, InsertsTwo, PutsBack};
 
 use std::alloc::{AllocError, Global};
 use std::collections::BTreeMap;
+use std::collections::btree_map::Range;
 use std::marker::Model;
 
 /// Rows of columns under keys, at most one under each. Contracts see the list of the rows, in the order
@@ -80,6 +81,14 @@ impl<K: Ord + Copy, V: Copy> TreeTable<K, V> {
     {
         let (found, value) = self.rows.range(..=*key).next_back()?;
         Some((*found, *value))
+    }
+
+    /// The rows whose keys are this one or above it, in the order of their keys. Takes no memory.
+    pub fn rows_from(&self, key: &K) -> Range<'_, K, V>
+        ensures value { result ≡ rows_from K.cmp key.now self.now }
+        ensures rising { IsTable K.cmp self.now }
+    {
+        self.rows.range(*key..)
     }
 
     /// The rows with their keys, in the order of the keys. `Err` only if memory is refused.

@@ -3,7 +3,7 @@
 
 use hh_names::{Account, UnitId};
 use hh_registrations::Registrations;
-use hh_rows::{DateRange, UnitRegistration, UnitRow};
+use hh_rows::{DateRange, Row, UnitRegistration, UnitRow};
 use hh_time::SettlementDate;
 use std::alloc::Global;
 
@@ -68,4 +68,22 @@ fn who_leads_a_unit_on_a_date(rt: HostRuntime) {
     for (rows, date, lead) in CASES {
         assert!(rt; leads(rt.alloc(), rows, date, lead));
     }
+}
+
+/// How many steps in the tables rows of S1 make, and how many of the rows are successions.
+fn changes(alloc: Global, leads: &[Lead]) -> Option<(usize, usize)> {
+    let mut rows = Vec::new(alloc);
+    for (lead, from) in leads {
+        rows.push(Row::Unit(row_from(lead, from)?)).ok()?;
+    }
+    let registrations = Registrations::new(alloc);
+    let changes = registrations.changes_of(alloc, &rows).ok()?;
+    Some((changes.steps.len(), changes.successions.len()))
+}
+
+#[test]
+fn what_rows_change_in_the_tables(rt: HostRuntime) {
+    assert!(rt; changes(rt.alloc(), &[FIRST]) == Some((2, 0)));
+    assert!(rt; changes(rt.alloc(), &[FIRST, WIDER]) == Some((5, 0)));
+    assert!(rt; changes(rt.alloc(), &[FIRST, SECOND]) == Some((5, 1)));
 }

@@ -1,7 +1,7 @@
 -- A part of a register while it is filled from the whole one, table by table.
-use Rattle.std.specs.Prelude.{◌≡◌, ◌≤ℤ◌, ℕ, pos, ◌⊎◌, List, [], All, Bool, true, false, Option, Some, None}
+use Rattle.std.specs.Prelude.{◌≡◌, ◌≤ℤ◌, ℕ, pos, ◌⊎◌, ◌||◌, List, [], All, Bool, true, false, Option, Some, None}
 use Rattle.std.specs.Ordering.{is_gt}
-use Rattle.std.specs.BTreeSet.{BTreeSet, contains}
+use Rattle.std.specs.BTreeSet.{contains}
 use Rattle.std.specs.FinMap.{find}
 use Rattle.std.specs.List.{AllByRecursion}
 use Rattle.std.specs.declared.cmp.Ordering.{Ordering}
@@ -17,6 +17,7 @@ use Rattle.hh_rows.specs.declared.rows.Row.{Row}
 use Rattle.hh_rows.specs.declared.rows.Row.TheVariants as row
 use Rattle.hh_rules.specs.History.{Registered}
 use Rattle.hh_rules.specs.RegisterView.{AgreesOn, AgreesOnParty, AgreesOnUnit, RegisterView, tables_in, with_tables}
+use Rattle.hh_kept_rows.specs.declared.named_units.NamedUnits.{NamedUnits}
 
 -- the register with other reallocations
 abbrev pub with_reallocations : Table ReallocationKey Reallocation → RegisterView → RegisterView
@@ -75,14 +76,20 @@ AgreesOnNames whole part (row.Contract r) = AgreesOn whole part (row.Contract r)
 AgreesOnNames whole part (row.Reallocation r) =
     AgreesOnParty whole part r.key.account.party × AgreesOnUnit whole part r.key.unit_period.unit
 
--- whether the unit and Settlement Period of a reallocation are named
-abbrev pub is_named_in : BTreeSet UnitPeriod → ReallocationKey × Reallocation → Bool
-is_named_in named e = contains unit_period_cmp named e.0.unit_period
+-- whether the unit of a reallocation is named, in the reallocation's Settlement Period or in all
+abbrev pub is_named_in : NamedUnits → ReallocationKey × Reallocation → Bool
+is_named_in named e = contains unit_period_cmp named.periods e.0.unit_period || contains bytes_cmp named.units e.0.unit_period.unit
 
--- the unit and Settlement Period of a reallocation row are named
-abbrev pub IsNamedIn : BTreeSet UnitPeriod → Row → Type 0
-IsNamedIn named (row.Reallocation r) = contains unit_period_cmp named r.key.unit_period ≡ true
+-- the unit and Settlement Period of a reallocation row are named, or the unit of a row of units
+abbrev pub IsNamedIn : NamedUnits → Row → Type 0
+IsNamedIn named (row.Reallocation r) = contains unit_period_cmp named.periods r.key.unit_period ≡ true
+IsNamedIn named (row.Unit r) = contains bytes_cmp named.units r.unit ≡ true
 IsNamedIn named _ = Unit {0}
+
+-- what was named still is
+pub record KeepsNames (old new : NamedUnits) : Type 0 where
+  pub periods : (at : UnitPeriod) → contains unit_period_cmp old.periods at ≡ true → contains unit_period_cmp new.periods at ≡ true
+  pub units : (unit : List ℕ) → contains bytes_cmp old.units unit ≡ true → contains bytes_cmp new.units unit ≡ true
 
 -- whether one Settlement Period is after another
 abbrev pub is_after : SettlementPeriod → SettlementPeriod → Bool

@@ -7,7 +7,7 @@ use Rattle.hh_rows.specs.declared.settlement_period.SettlementPeriod.{Settlement
 use Rattle.hh_rules.specs.Positions.{position_key_cmp}
 use Rattle.hh_rules.specs.declared.positions.Position.{Position}
 use Rattle.hh_rules.specs.declared.positions.PositionKey.{PositionKey}
-use Rattle.hh_registrations.specs.declared.lead_steps.LeadStep.{LeadStep}
+use Rattle.hh_registrations.specs.declared.unit_steps.UnitStep.{UnitStep}
 use Rattle.hh_states.specs.Changes.{LoadChangeView, RunChangeView}
 use Rattle.hh_states.specs.Content.{Content}
 use Rattle.hh_beside.specs.DayLaws.{HaveTheSame}
@@ -26,8 +26,8 @@ abbrev pub BecomesOrLeaves : (Content → Content) → Database → Database →
 BecomesOrLeaves effect old new true = Becomes effect old new
 BecomesOrLeaves effect old new false = new ≡ old
 
--- The rows of a load and these steps in the registrations of units are written, and nothing else changed.
-pub record StoresLoadAlone (w : LoadChangeView) (steps : List LeadStep) (old new : Database) : Type 0 where
+-- The rows of a load and these steps in the tables of units and of registrations are written, and nothing else changed.
+pub record StoresLoadAlone (w : LoadChangeView) (steps : List UnitStep) (old new : Database) : Type 0 where
   pub stores : StoresLoadBy w steps old new
   pub beside : beside_in new.trees ≡ beside_in old.trees
 

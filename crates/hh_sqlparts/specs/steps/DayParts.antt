@@ -37,11 +37,12 @@ with_day_contracts date whole part = record part {
   references = flat_map (entry_under bytes_cmp whole.references) (references_in (contracts_on date whole));
 }
 
--- the part with all parties and units, and the prices of a date
+-- the part with all parties, units and registrations of units, and the prices of a date
 abbrev pub with_registered : ℕ → Registered → Registered → Registered
 with_registered date whole part = record part {
   parties = whole.parties;
   units = whole.units;
+  leads = whole.leads;
   prices = prices_of whole.prices date;
 }
 

@@ -4,9 +4,9 @@ use Rattle.std.specs.BTreeMap.{is_at}
 use Rattle.std.specs.FinMap.{find}
 use Rattle.std.specs.List.{flat_map, list_any}
 use Rattle.std.specs.Option.{IfSome}
-use Rattle.std.specs.Ordering.{eq_by_cmp, is_eq, nat_cmp}
+use Rattle.std.specs.Ordering.{is_eq, nat_cmp}
 use Rattle.std.specs.declared.cmp.Ordering.{Ordering}
-use Rattle.hh_tables.specs.Tables.{IsTable, Table, put_all}
+use Rattle.hh_tables.specs.Tables.{Table, put_all}
 use Rattle.hh_names.specs.Accounts.{bytes_cmp}
 use Rattle.hh_names.specs.declared.values.Reading.{Reading}
 use Rattle.hh_names.specs.declared.values.Reallocation.{Reallocation}
@@ -16,7 +16,6 @@ use Rattle.hh_rows.specs.declared.keys.UnitPeriod.{UnitPeriod}
 use Rattle.hh_rows.specs.declared.settlement_period.SettlementPeriod.{SettlementPeriod}
 use Rattle.hh_rows.specs.declared.rows.Row.{Row}
 use Rattle.hh_rows.specs.declared.rows.Row.TheVariants as row
-use Rattle.hh_rows.specs.Keys.{reallocation_key_cmp, unit_period_cmp}
 use Rattle.hh_sqlrows.specs.OfficeTables.{is_of_unit_on}
 pub use Rattle.hh_sqlrows.specs.Forms.{entry_under, found_entry}
 use Rattle.hh_sqlrows.specs.declared.unit_date.UnitDate.{UnitDate}
@@ -43,10 +42,11 @@ abbrev pub price_key_of : Row → Option SettlementPeriod
 price_key_of (row.Price r) = Some r.at
 price_key_of _ = None
 
--- the unit and the Settlement Period of a reallocation row, for which its reallocations are found
-abbrev pub reallocated_of : Row → Option UnitPeriod
-reallocated_of (row.Reallocation r) = Some r.key.unit_period
-reallocated_of _ = None
+-- the unit of a reallocation row and of a row of units, for which its reallocations are found
+abbrev pub unit_of : Row → Option (List ℕ)
+unit_of (row.Reallocation r) = Some r.key.unit_period.unit
+unit_of (row.Unit r) = Some r.unit
+unit_of _ = None
 
 -- ---- the names by which these are read
 
@@ -59,9 +59,6 @@ unit_day_of r = option_map unit_day (reading_key_of r)
 
 abbrev pub date_of : Row → Option ℕ
 date_of r = option_map (λ at. at.date) (price_key_of r)
-
-abbrev pub unit_of : Row → Option (List ℕ)
-unit_of r = option_map (λ at. at.unit) (reallocated_of r)
 
 -- what a row names, if it names anything, is in the list
 abbrev pub IsAmong : {N : Type 0} → (N → N → Ordering) → (Row → Option N) → List N → Row → Type 0
@@ -90,12 +87,3 @@ reallocations_of es unit = filter (λ e. is_eq (bytes_cmp e.0.unit_period.unit u
 -- under the keys of rows, the part has what the whole has
 abbrev pub FindsNamed : {K V : Type 0} → (K → K → Ordering) → (Row → Option K) → List Row → Table K V → Table K V → Type 0
 FindsNamed R key rows whole part = All (λ r. IfSome (key r) (λ k. find R k part ≡ find R k whole)) rows
-
--- the reallocations of a unit in a Settlement Period
-abbrev pub reallocated_at : UnitPeriod → Table ReallocationKey Reallocation → Table ReallocationKey Reallocation
-reallocated_at at es = filter (λ e. eq_by_cmp unit_period_cmp e.0.unit_period at) es
-
--- for the units of rows in their Settlement Periods, the part has the reallocations that the whole has
-abbrev pub HasReallocated : List Row → Table ReallocationKey Reallocation → Table ReallocationKey Reallocation → Type 0
-HasReallocated rows whole part =
-    IsTable reallocation_key_cmp part × All (λ r. IfSome (reallocated_of r) (λ at. reallocated_at at part ≡ reallocated_at at whole)) rows

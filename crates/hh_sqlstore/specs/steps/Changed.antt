@@ -3,10 +3,11 @@ use Rattle.std.specs.Prelude.{◌≡◌, ◌⊎◌, IsTrue}
 use Rattle.sqlite.specs.Effect.{Database}
 use Rattle.sqlite.specs.State.{HasCleanDisk, State}
 use Rattle.sqlite_trees.specs.Tree.{Trees}
+use Rattle.hh_rows.specs.declared.settings.Settings.{Settings}
 use Rattle.hh_states.specs.Changes.{LoadChangeView, RunChangeView}
 use Rattle.hh_sqlparts.specs.Keeping.{beside_with_load, beside_with_run}
 use Rattle.hh_sqlparts.specs.Laws.{AreAlike}
-use Rattle.hh_sqlrows.specs.Contents.{beside_in, registered_of}
+use Rattle.hh_sqlrows.specs.Contents.{beside_in, content_of}
 use Rattle.hh_sqlrows.specs.Office.{IsOffice}
 use Rattle.hh_sqlchanges.specs.Writes.{StoresLoad, StoresRun}
 use Rattle.hh_sqlparts.specs.steps.Readings.{SelectsOnly}
@@ -16,7 +17,7 @@ pub use Rattle.hh_sqlrows.specs.steps.Changed.{IsChangedBy}
 -- a load is written, and what is kept beside the content is changed for it
 abbrev pub KeepsLoad : LoadChangeView → Database → Database → Type 0
 KeepsLoad w old new =
-    StoresLoad w old new × AreAlike (beside_in new.trees) (beside_with_load w (registered_of old.trees) (beside_in old.trees))
+    StoresLoad w old new × ((kept : Settings) → AreAlike (beside_in new.trees) (beside_with_load w (content_of kept old.trees) (beside_in old.trees)))
 
 -- a run is written, and what is kept beside the content is changed for it
 abbrev pub KeepsRun : RunChangeView → Database → Database → Type 0

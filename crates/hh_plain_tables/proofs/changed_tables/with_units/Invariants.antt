@@ -1,7 +1,8 @@
 use Rattle.std.proofs.Common.{◌≡◌, take}
-use Rattle.hh_plain_tables.specs.steps.KeptTables.{leads_after_units}
+use Rattle.hh_rules.specs.Leads.{registered_units}
+use Rattle.hh_plain_tables.specs.steps.KeptTables.{after_units}
 use Rattle.hh_plain_tables.proofs.changed_tables.with_units.Given as goal
 
--- the registrations after the rows so far
+-- what is registered of units after the rows so far
 abbrev pub invariant-loop-row : goal.invariant-loop-row
-invariant-loop-row l = l.changed ≡ leads_after_units (take l.row-index l.units) l.leads
+invariant-loop-row l = l.changed ≡ after_units (take l.row-index l.rows) (registered_units l.register)

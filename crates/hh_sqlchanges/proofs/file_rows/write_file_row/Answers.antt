@@ -4,7 +4,7 @@ use Rattle.sqlite.specs.Held.{state}
 use Rattle.hh_rows.specs.declared.rows.Row.{Row}
 use Rattle.hh_sqlchanges.specs.steps.Becoming.{Becomes}
 use Rattle.hh_sqlchanges.specs.steps.FileRows.{with_file_row}
-use Rattle.hh_sqlchanges.proofs.LoadLaws.{contract_put, meter_put, party_put, price_put, reallocation_put, unit_put}
+use Rattle.hh_sqlchanges.proofs.LoadLaws.{contract_put, meter_put, party_put, price_put, reallocation_put, unit_row_none}
 use Rattle.hh_sqlchanges.proofs.file_rows.write_file_row.Goals as goal
 
 pub returns-in-Party-clause-writes : goal.returns-in-Party-clause-writes
@@ -16,10 +16,8 @@ returns-in-Party-clause-writes g c clean inside is =
 
 pub returns-in-Unit-clause-writes : goal.returns-in-Unit-clause-writes
 returns-in-Unit-clause-writes g c clean inside is =
-    let old = state g.S.Store c.args.tx.now.conn.now in
-    let new = state g.S.Store c.replace-in-Unit.new.tx.conn.now in
-    subst (λ (r : Row). OnOk c.replace-in-Unit.result (Becomes (with_file_row r) old.now new.now)) (sym c.in-Unit.is)
-    (on_ok_weaker c.replace-in-Unit.result (unit_put old.now new.now c.in-Unit.row) (c.replace-in-Unit.ensures.puts clean inside is))
+    subst (λ (r : Row). Becomes (with_file_row r) (state g.S.Store c.args.tx.now.conn.now).now (state g.S.Store c.args.tx.now.conn.now).now) (sym c.in-Unit.is)
+    (unit_row_none c.in-Unit.field-0 (state g.S.Store c.args.tx.now.conn.now).now is)
 
 pub returns-in-Meter-clause-writes : goal.returns-in-Meter-clause-writes
 returns-in-Meter-clause-writes g c clean inside is =

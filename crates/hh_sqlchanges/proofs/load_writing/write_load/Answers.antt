@@ -12,4 +12,4 @@ returns-clause-writes g c clean inside is =
     let clean_mid : HasCleanDisk mid = omega (arith, c.write_beside.ensures.frame.survives.clean, clean) in
     let in_mid = c.in_ok-write_content.ensures.frame.inside clean_mid inside in
     let stored = c.in_ok-write_content.ensures.writes clean_mid inside is in
-    load_changed c.args.change.now c.args.leads.now c.args.positions.now c.args.touched.now old.now mid.now new.now c.write_beside.result stored (c.write_beside.ensures.writes clean in_mid stored.stores.stays.is_office)
+    load_changed c.args.change.now c.args.steps.now c.args.positions.now c.args.touched.now old.now mid.now new.now c.write_beside.result stored (c.write_beside.ensures.writes clean in_mid stored.stores.stays.is_office)

@@ -11,9 +11,10 @@ use Rattle.hh_sqlrows.specs.Forms.{rows_under_keys}
 use Rattle.hh_sqlrows.specs.OfficeSchema.{office}
 use Rattle.hh_sqlrows.specs.OfficeTables as tables
 use Rattle.hh_sqlrows.proofs.FrameLaws.{reads_as, reads_failed, reads_then}
-use Rattle.hh_sqlparts.specs.steps.Named.{FindsNamed, HasReallocated, price_key_of, reading_key_of, reference_of, volume_key_of}
+use Rattle.hh_sqlparts.specs.steps.Named.{FindsNamed, price_key_of, reading_key_of, reference_of, volume_key_of}
 use Rattle.hh_sqlparts.proofs.NamedForms.{rows_rise}
 use Rattle.hh_sqlparts.proofs.NamedParts.{judges_by_names}
+use Rattle.hh_sqlparts.proofs.NamedRows.{HasReallocations}
 use Rattle.hh_sqlparts.proofs.NamedTables.{contracts_named, meters_named, prices_named, reallocations_named, references_named}
 use Rattle.hh_sqlparts.proofs.ReadingLaws.{only, found_both, reading_then}
 use Rattle.hh_sqlparts.proofs.named.select_named.Goals as goal
@@ -44,7 +45,7 @@ returns-clause-value g c stands office settled =
     let P4 : Database → Type 0 = λ db. FindsNamed unit_period_cmp reading_key_of rows (rows_under_keys tables.meters db.trees) c.in_ok-meters.meters in
     let P5 : Database → Type 0 = λ db. FindsNamed settlement_period_cmp price_key_of rows (rows_under_keys tables.period_prices db.trees) c.in_ok-prices.prices in
     let P6 : Database → Type 0 = λ db. FindsNamed contract_key_cmp volume_key_of rows (rows_under_keys tables.contracts db.trees) c.in_ok-contracts.contracts in
-    let P7 : Database → Type 0 = λ db. HasReallocated rows (rows_under_keys tables.reallocations db.trees) c.in_ok-reallocations.reallocations in
+    let P7 : Database → Type 0 = λ db. HasReallocations rows (rows_under_keys tables.reallocations db.trees) c.in_ok-reallocations.reallocations in
     let P8 : Database → Type 0 = λ db. c.in_ok-leads.leads ≡ leads_for rows (rows_under_keys tables.leads db.trees) [] in
     let r7 = reading_then s6 s7 s8 (only _ _ _ reallocations.frame) (only _ _ _ leads.frame) in
     let r6 = reading_then s5 s6 s8 (only _ _ _ contracts.frame) r7 in

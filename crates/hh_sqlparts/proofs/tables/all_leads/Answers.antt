@@ -4,7 +4,7 @@ use Rattle.sqlite.specs.Held.{state}
 use Rattle.hh_tables.specs.Tables.{put_all}
 use Rattle.hh_rows.specs.Keys.{lead_key_cmp}
 use Rattle.hh_registrations.specs.Registrations.{Leads}
-use Rattle.hh_sqlparts.proofs.LeadStepLaws.{leads_again}
+use Rattle.hh_sqlparts.proofs.UnitStepLaws.{leads_again}
 use Rattle.hh_sqlparts.proofs.tables.all_leads.Goals as goal
 
 pub returns-clause-value : goal.returns-clause-value

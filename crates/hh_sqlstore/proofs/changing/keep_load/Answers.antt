@@ -24,10 +24,11 @@ returns-clause-made g c clean =
       settled = changed.settled;
       changed = λ office.
           let kept = reading.left changed.was_open office was_settled in
-          let written = subst (λ (db : Database). ChangesByLoad w c.in_ok-read.read.leads.items c.in_ok-read.read.positions.items c.in_ok-touched.touched.items db new.now) kept.0
-          (rw c.deref-3.ensures.value at (rw c.deref-2.ensures.value at (rw c.deref.ensures.value at (changed.changed (subst IsOffice (sym kept.0) office))))) in
-          load_kept w _ _ _ old.now new.now written (rw c.rows.ensures at (c.in_ok-read.ensures.leads changed.was_open office was_settled))
-          (rw c.rows.ensures at (c.in_ok-read.ensures.positions changed.was_open office was_settled)) (rw c.rows-2.ensures at c.in_ok-touched.ensures.same);
+          let written = subst (λ (db : Database). ChangesByLoad w c.in_ok-read.read.steps.items c.in_ok-read.read.positions.items c.in_ok-touched.touched.items db new.now) kept.0
+          (rw c.deref-4.ensures.value at (rw c.deref-3.ensures.value at (rw c.deref-2.ensures.value at (changed.changed (subst IsOffice (sym kept.0) office))))) in
+          load_kept w _ _ _ _ old.now new.now written (rw c.rows.ensures at (c.in_ok-read.ensures.steps changed.was_open office was_settled))
+          (rw c.rows.ensures at (c.in_ok-read.ensures.positions changed.was_open office was_settled))
+          (rw c.rows.ensures at (c.in_ok-read.ensures.touched changed.was_open office was_settled)) (rw c.deref.ensures.value at (rw c.rows-2.ensures at c.in_ok-touched.ensures.same));
     }) (c.commit_load.ensures.made clean)
 
 pub returns-clause-undone : goal.returns-clause-undone
@@ -43,8 +44,9 @@ returns-clause-crash g c =
     let new = state g.S.Store c.commit_load.new.connection in
     let read = c.in_ok-read.ensures in
     let w = c.args.change.now in
-    may_change_after (ChangesByLoad w c.in_ok-read.read.leads.items c.in_ok-read.read.positions.items c.in_ok-touched.touched.items) (KeepsLoad w) old mid new c.in_ok-read.read
+    may_change_after (ChangesByLoad w c.in_ok-read.read.steps.items c.in_ok-read.read.positions.items c.in_ok-touched.touched.items) (KeepsLoad w) old mid new c.in_ok-read.read
     read.frame c.commit_load.ensures.honest
-    (rw c.deref-3.ensures.value at (rw c.deref-2.ensures.value at (rw c.deref.ensures.value at c.commit_load.ensures.crash)))
+    (rw c.deref-4.ensures.value at (rw c.deref-3.ensures.value at (rw c.deref-2.ensures.value at c.commit_load.ensures.crash)))
     (λ still office settled db written.
-    load_kept w _ _ _ old.now db written (rw c.rows.ensures at (read.leads still office settled)) (rw c.rows.ensures at (read.positions still office settled)) (rw c.rows-2.ensures at c.in_ok-touched.ensures.same))
+    load_kept w _ _ _ _ old.now db written (rw c.rows.ensures at (read.steps still office settled)) (rw c.rows.ensures at (read.positions still office settled))
+    (rw c.rows.ensures at (read.touched still office settled)) (rw c.deref.ensures.value at (rw c.rows-2.ensures at c.in_ok-touched.ensures.same)))

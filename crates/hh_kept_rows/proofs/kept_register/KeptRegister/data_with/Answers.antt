@@ -1,8 +1,16 @@
-use Rattle.std.proofs.Common.{ap, ◌∙◌}
+use Rattle.std.proofs.Common.{ap, subst, sym, ◌∙◌}
 use Rattle.std.specs.Prelude.{filter_map}
 use Rattle.hh_calc.specs.Terms.{contracts_given, period_data}
-use Rattle.hh_states.specs.PeriodSettlement.{unit_at}
+use Rattle.hh_states.specs.PeriodSettlement.{unit_at, units_on}
+use Rattle.hh_kept_rows.specs.steps.DayRolls.{AreLedOn}
+use Rattle.hh_kept_rows.proofs.DayLaws.{are_led, units_led}
 use Rattle.hh_kept_rows.proofs.kept_register.KeptRegister.data_with.Goals as goal
+
+pub units_at-requires : goal.units_at-requires
+units_at-requires c =
+    let tables = c.args.self.now in
+    let date = c.args.at.now.date in
+    subst (AreLedOn tables date) (sym (c.deref-2.ensures.value ∙ c.requires.units)) (are_led tables date (units_on tables date))
 
 pub returns : goal.returns
 returns c =
@@ -11,5 +19,5 @@ returns c =
     c.new.ensures
     ∙ (λ i. period_data
     ((c.in_ok-accounts.ensures.items ∙ c.deref.ensures.value ∙ c.requires.accounts) i)
-    ((c.in_ok-units.ensures ∙ ap (filter_map (unit_at tables at)) (c.deref-2.ensures.value ∙ c.requires.units)) i)
+    ((c.in_ok-units.ensures ∙ ap (filter_map (unit_at tables at)) (c.deref-2.ensures.value ∙ c.requires.units) ∙ units_led tables at (units_on tables at.date)) i)
     (contracts_given c.args.contracts) (c.price_at-price.ensures i))

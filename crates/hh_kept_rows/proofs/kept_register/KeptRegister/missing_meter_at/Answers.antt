@@ -5,8 +5,8 @@ use Rattle.hh_rows.specs.declared.keys.UnitPeriod.{UnitPeriod}
 use Rattle.hh_rows.specs.declared.rows.UnitRegistration.{UnitRegistration}
 use Rattle.hh_rows.specs.declared.settlement_period.SettlementPeriod.{SettlementPeriod}
 use Rattle.hh_rules.specs.History.{Registered}
-use Rattle.hh_states.specs.PeriodSettlement.{reading_of}
-use Rattle.hh_kept_rows.proofs.DayLaws.{find-map, not_yet, now_found}
+use Rattle.hh_states.specs.PeriodSettlement.{reading_of, units_on}
+use Rattle.hh_kept_rows.proofs.DayLaws.{find-map, not_yet, now_found, periods_led}
 use Rattle.hh_kept_rows.proofs.kept_register.KeptRegister.missing_meter_at.Goals as goal
 
 module _ (tables : Registered) (at : SettlementPeriod) where
@@ -30,7 +30,7 @@ returns-then-lacks_reading c =
     let found = now_found (lacks tables at) c.args.units.now c.loop-place.place c.index-units-place.result c.loop-place-test.true c.index-units-place.is c.loop-place.invariant
     (ap (λ key. is_none (reading_of tables key)) (sym c.unit_period-key.ensures) ∙ sym c.lacks_reading.ensures ∙ c.if-lacks_reading.true) in
     ap Some c.unit_period-key.ensures
-    ∙ sym (ap (λ es. find (λ key. is_none (reading_of tables key)) (map (here tables at) es)) (sym c.requires)
+    ∙ sym (ap (find (λ key. is_none (reading_of tables key))) (sym (periods_led tables at (units_on tables at.date)) ∙ ap (map (here tables at)) (sym c.requires))
     ∙ find-map (λ key. is_none (reading_of tables key)) (here tables at) c.args.units.now
     ∙ ap (option_map (here tables at)) found)
 
@@ -40,6 +40,6 @@ returns c =
     let at = c.args.at.now in
     let all = take_all c.loop-place.place c.args.units.now c.loop-place-test.false in
     let none : find (lacks tables at) c.args.units.now ≡ None = ap (find (lacks tables at)) (sym all) ∙ c.loop-place.invariant in
-    sym (ap (λ es. find (λ key. is_none (reading_of tables key)) (map (here tables at) es)) (sym c.requires)
+    sym (ap (find (λ key. is_none (reading_of tables key))) (sym (periods_led tables at (units_on tables at.date)) ∙ ap (map (here tables at)) (sym c.requires))
     ∙ find-map (λ key. is_none (reading_of tables key)) (here tables at) c.args.units.now
     ∙ ap (option_map (here tables at)) none)
