@@ -1,5 +1,5 @@
-"""The offices whose database files are kept in `versions`: what each was asked, and how its files are unpacked. The files are
-never made again by a later program, so what is said here about them stays as it is."""
+"""The offices whose database files are kept in `versions`: the version of their tables, what each was asked, and how its files are
+unpacked. The files are never made again by a later program, so what is said here about them stays as it is."""
 import dataclasses
 import gzip
 
@@ -14,7 +14,8 @@ SETTLE_KEY, MARKET_KEY = "op-settle001", "op-market001"
 class Office:
     """An office that was made with this key and lead time. Commands then asked what the lines ask, each opening the file again.
     After that clients of one service asked what the lines in `served` ask. The service was killed when it had answered them, or
-    while it was writing what the line `cut` asks. An office without positions is as one that was made before they were kept."""
+    while it was writing what the line `cut` asks. An office without positions is as one that was made before they were kept.
+    `migrated` names a kept office that was asked the lines. `settle migrate` then took a copy of it to this version."""
 
     operator: str
     lines: tuple = ()
@@ -22,6 +23,8 @@ class Office:
     served: tuple = ()
     cut: str = ""
     has_positions: bool = True
+    version: int = 1
+    migrated: str = ""
 
     def answered(self):
         """All lines that were answered."""
@@ -50,6 +53,13 @@ SECOND_RUN, THIRD_RUN = (f"run 1719961200 {SETTLE_KEY} 2024-07-01 {kind}" for ki
 # A service has one moment for all its clients.
 SERVED_RUN = FIRST_RUN.replace("1719874800", "1719961200")
 SERVED_PRICE = DEARER_PRICE.replace("1719700000", "1719961200")
+# NEWCO joins, and its account NEWCO-C leads the unit S1 from the day of the runs on. The files of both lines are in no example.
+JOINS = f"load 1719700000 {SETTLE_KEY} parties n.csv"
+TAKES_OVER = f"load 1719700000 {SETTLE_KEY} units s.csv"
+TEXTS = {
+    "n.csv": "party,from,to,key\nNEWCO,2024-01-01,,newco0001\n",
+    "s.csv": "unit,party,side,interconnector,from,to\nS1,NEWCO,C,no,2024-07-01,\n",
+}
 
 MARKET = lines_of(
     f"""
@@ -97,7 +107,7 @@ WEEK = lines_of(
     """
 )
 
-OFFICES = {
+OF_VERSION_ONE = {
     "new": Office(SETTLE_KEY, lead_minutes=45),
     "first-sf": Office(SETTLE_KEY, (*TWO_PARTIES, FIRST_RUN)),
     "first-r1": Office(SETTLE_KEY, (*TWO_PARTIES, FIRST_RUN, SECOND_RUN)),
@@ -109,6 +119,14 @@ OFFICES = {
     "killed": Office(SETTLE_KEY, TWO_PARTIES, served=(SERVED_RUN, SERVED_PRICE, SECOND_RUN)),
     "killed-writing": Office(SETTLE_KEY, TWO_PARTIES, served=(SERVED_RUN, SERVED_PRICE), cut=SECOND_RUN),
 }
+# Those that the program of version 2 made too, with the same lines.
+MADE_AGAIN = "new", "dearer-sf", "dearer-r1", "market", "without-positions", "killed", "killed-writing"
+OF_VERSION_TWO = {
+    **{f"{name}-2": dataclasses.replace(OF_VERSION_ONE[name], version=2) for name in MADE_AGAIN},
+    "succession-2": Office(SETTLE_KEY, (*TWO_PARTIES, FIRST_RUN, JOINS, TAKES_OVER), version=2),
+    "migrated-2": dataclasses.replace(OF_VERSION_ONE["first-r1"], version=2, migrated="first-r1"),
+}
+OFFICES = {**OF_VERSION_ONE, **OF_VERSION_TWO}
 
 
 def packed(name, end, folder=FOLDER):

@@ -46,8 +46,12 @@ TABLES = {
     "marks": (1, "id positions"),
     "leads": (2, "unit:TEXT day_from party:TEXT side day_to"),
 }
-# Those of version 1.
-TABLES_OF_ONE = [table for table in TABLES if table != "leads"]
+# Those of version 2, and those of version 1, in the order in which they are made.
+TABLES_OF_TWO = [
+    *("settings", "parties", "units", "meters", "prices", "refs", "contracts", "reallocations", "files", "runs", "results", "credits"),
+    *("postings", "positions", "touched", "marks", "leads"),
+]
+TABLES_OF_ONE = [table for table in TABLES_OF_TWO if table != "leads"]
 # 2024-07-01 is the 19,905th day after 1970-01-01, and 2024-01-01 the 19,723rd; 2001-01-01 is the 11,323rd, 2024-10-27 the 20,023rd
 # and 2099-12-31 the 47,481st.
 TODAY, NEW_YEAR, FIRST_DAY, AUTUMN, LAST_DAY = 19_905, 19_723, 11_323, 20_023, 47_481
@@ -78,13 +82,18 @@ def content_of(database, tables=TABLES):
     return {table: rows_of(database, table) for table in tables}
 
 
+def tables_of(version):
+    """The tables of an office of an earlier version, or those of the present one."""
+    return {1: TABLES_OF_ONE, 2: TABLES_OF_TWO}.get(version, [*TABLES])
+
+
 def content_of_any(database):
-    """All rows of an office's database, which has the tables of version 1 and no others if its settings name that version."""
+    """All rows of an office's database, which has the tables of the version that its settings name and no others."""
     ((_, version, *_),) = rows_of(database, "settings")
-    tables = TABLES_OF_ONE if version == 1 else TABLES
+    tables = tables_of(version)
     with contextlib.closing(sqlite3.connect(database)) as connection:
         found = [name for (name,) in connection.execute("SELECT name FROM sqlite_schema WHERE type = 'table'")]
-    assert found == [*tables], (version, found)
+    assert found == tables, (version, found)
     return content_of(database, tables)
 
 

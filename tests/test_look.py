@@ -73,8 +73,8 @@ class Copies(Looking):
         self.assertEqual([path.name for path in self.room.iterdir() if path.name.startswith("look-")], [])
 
     def test_what_is_in_the_log_alone(self):
-        """The services of two offices were killed, and what they committed last is in the log. What one was writing isn't there."""
-        for name, runs in ("killed", "SF R1"), ("killed-writing", "SF"):
+        """The services of four offices were killed, and what they committed last is in the log. What two were writing isn't there."""
+        for name, runs in ("killed", "SF R1"), ("killed-writing", "SF"), ("killed-2", "SF R1"), ("killed-writing-2", "SF"):
             row = self.shows("status", "--db", self.kept(name))[-1]
             self.assertRegex(row, rf"{DAY} +48 +48/48 +96/96 +1 +{runs} ")
 
@@ -248,10 +248,12 @@ class Refused(Looking):
             self.assertIn(f"its tables are of version {version}, and only those of versions 1 and 2 are read here", told)
 
     def test_both_versions(self):
-        """Of an office that was migrated the same is shown."""
+        """Of an office that was migrated the same is shown, and of one of version 2 that was asked the same."""
         for words in SHOWING:
-            with self.subTest(words):
-                self.assertEqual(look(*asked(words, self.present("market"))), look(*asked(words, self.kept("market"))))
+            shown = look(*asked(words, self.kept("market")))
+            for database in self.present("market"), self.kept("market-2"):
+                with self.subTest(f"{words} {database}"):
+                    self.assertEqual(look(*asked(words, database)), shown)
 
     def test_what_the_program_is_not_asked(self):
         """It opens the present version alone, so nothing of an older office is asked, and the line says what helps."""

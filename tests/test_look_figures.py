@@ -19,6 +19,7 @@ import unittest.mock
 import weakref
 from fractions import Fraction
 
+import kept_offices
 from looking import Looking, MadeOffice, RandomOffice, changing, look
 from programs import IS_LONG
 from test_desk import DAY, MARKET
@@ -204,7 +205,7 @@ class Kept(Looking):
     def test_all_runs_follow(self):
         """Of each kept office. What doesn't follow from the rows in force follows from those that were corrected."""
         count = 0
-        for name in "first-sf", "first-r1", "dearer-sf", "dearer-r1", "market", "week", "without-positions", "killed", "killed-writing":
+        for name in (name for name in kept_offices.OFFICES if not name.startswith("new")):
             database = self.kept(name)
             with contextlib.closing(sqlite3.connect(shutil.copy(database, self.room / "read.db"))) as read:
                 runs = read.execute("SELECT day, kind FROM runs").fetchall() if not name.startswith("killed") else [(19905, 0)]
@@ -212,7 +213,7 @@ class Kept(Looking):
                 lines = self.shows("postings", "--db", database, office.clock.date_of(day), office.KINDS[kind])
                 self.assertTrue(lines[-1].startswith("All figures follow from the rows "), lines[-1])
                 count += 1
-        self.assertEqual(count, 19)
+        self.assertEqual(count, 30)
 
     def test_what_the_guide_tells(self):
         """The balances of the market and of the week, from the postings of all runs; and what R1 of the week posted."""

@@ -24,7 +24,7 @@ EARLY, LATE = 1_719_568_800, 1_735_689_600  # before 2024-07-01, and when it and
 MARKET = HOME / "examples" / "market"
 REQUESTS, PART = (1_200, 40) if IS_LONG else (80, 80)
 LOADS, ACCEPTED = (20, 20) if IS_LONG else (12, 2)  # that are asked for behind each part, and of those the accepted ones
-KEPT = tuple(OFFICES) if IS_LONG else ("new", "without-positions", "killed")
+KEPT = tuple(OFFICES) if IS_LONG else ("new", "without-positions", "killed", "succession-2")
 # Rows of each kind that come to the example market, each with the refusal that it gets.
 ROWS = {
     "parties": [

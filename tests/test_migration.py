@@ -320,7 +320,7 @@ class Files(OfVersionOne):
         notes.mkdir()
         changed_by(notes / "notes.db", "CREATE TABLE notes (text)")
         self.stay(notes / "notes.db", STORE)
-        for name in ("market", "killed"):
+        for name in ("market", "killed", "killed-2"):
             database = unpack(name, self.room / "refused" / name)
             with contextlib.closing(sqlite3.connect(database)) as connection:
                 connection.execute("PRAGMA wal_autocheckpoint = 0")
